@@ -1,0 +1,9 @@
+pub mod NumberLaws
+pub mod StatementLaws
+pub mod ReadingLaws
+pub mod ItemLaws
+pub mod ReadingBuilt
+pub mod OneCallLaws
+pub mod OneCallFaithful
+pub mod ReportLaws
+pub mod RowValues

@@ -1,0 +1,9 @@
+pub mod Names
+pub mod Items
+pub mod Statements
+pub mod Reading
+pub mod OneCall
+pub mod Jobs
+pub mod Tool
+pub mod ReportLines
+pub mod ReportRows

@@ -1,0 +1,88 @@
+// The text that answers a scenario's bytes, made whole before anything is written.
+ghost use Rattle.std.specs.Prelude.{◌≡◌, ◌≢◌, ◌≤◌, IfOk, OnOk, length};
+ghost use Rattle.stx_model.specs.Faithful.{Faithful};
+ghost use Rattle.stx_model.specs.Report.{printed};
+ghost use Rattle.stx_model.specs.Stores.{committed_rows};
+ghost use Rattle.springtx.specs.Jobs.{refusal_text as text_of};
+ghost use Rattle.springtx.specs.OneCall.{IsOneCall};
+ghost use Rattle.springtx.specs.ReportRows.{values_from};
+
+use crate::fault::ReadFault;
+use crate::play::play;
+use crate::reader::read_scenario;
+use crate::report::print;
+use std::alloc::Global;
+use stx_model::{Report, StoreEntry};
+use stx_scenario::{NoMemory, RowNo, Scenario};
+use stx_store::row_after;
+
+/// What the tool answers.
+#[derive(Debug, Drop)]
+pub enum Answer {
+    /// The scenario was played: what is reported, and its text.
+    Played(Report, Vec<u8>),
+    /// The bytes denote no scenario: the refusal's text.
+    Refused(Vec<u8>),
+}
+
+ghost use Rattle.springtx.specs.Tool.{IsAnswerTo};
+
+/// Reads a scenario, plays it and makes its report's text, or the text of its refusal.
+#[tactic(auto, using(crate::proofs::ReadingBuilt::built))]
+pub fn answer_to(alloc: Global, bytes: &[u8]) -> Result<Answer, NoMemory>
+    ensures { IfOk result (λ answer. IsAnswerTo bytes.now answer) }
+{
+    match read_scenario(alloc, bytes) {
+        Ok(scenario) => {
+            let (report, text) = played(alloc, scenario)?;
+            Ok(Answer::Played(report, text))
+        }
+        Err(fault) => {
+            let text = refusal(alloc, fault)?;
+            Ok(Answer::Refused(text))
+        }
+    }
+}
+
+/// Plays a scenario with one call, and makes its report's text.
+fn played(alloc: Global, scenario: Scenario) -> Result<(Report, Vec<u8>), NoMemory>
+    requires { IsOneCall scenario }
+    ensures scenario { IfOk result (λ played. played.0.scenario ≡ scenario) }
+    ensures faithful { IfOk result (λ played. Faithful scenario played.0.outcome) }
+    ensures text { IfOk result (λ played. played.1.items ≡ printed scenario played.0.outcome) }
+{
+    let outcome = play(alloc, &scenario)?;
+    let values = last_values(alloc, &scenario, outcome.store.as_slice())?;
+    let text = print(alloc, &scenario, &outcome, &values)?;
+    let report = Report { scenario, outcome };
+    Ok((report, text))
+}
+
+/// The value of each row after all commits, in the order of the row names.
+fn last_values(
+    alloc: Global,
+    scenario: &Scenario,
+    entries: &[StoreEntry],
+) -> Result<Vec<Option<i64>>, NoMemory>
+    requires { length scenario.now.row_names ≤ 256 }
+    ensures { IfOk result (λ values. values.items ≡ values_from (committed_rows scenario.now.values entries.now) 0 scenario.now.row_names) }
+{
+    let mut values = Vec::new(alloc);
+    for row in 0..scenario.row_names.len() {
+        values.push(row_after(&scenario.values, entries, RowNo(row as u32)))?;
+    }
+    Ok(values)
+}
+
+/// The text of a refusal. For want of memory there is none.
+fn refusal(alloc: Global, fault: ReadFault) -> Result<Vec<u8>, NoMemory>
+    ensures text { IfOk result (λ text. text.items ≡ text_of fault) }
+    ensures refused { OnOk result (fault ≢ ReadFault.NoMemory) }
+{
+    let text = match fault {
+        ReadFault::NotToml => "refused 1 NotToml\n",
+        ReadFault::NotYet => "refused 17 NotYet\n",
+        ReadFault::NoMemory => return Err(NoMemory),
+    };
+    Ok(Vec::from_slice(alloc, text.as_bytes())?)
+}

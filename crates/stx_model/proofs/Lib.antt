@@ -1,0 +1,13 @@
+pub mod WorkedRows
+pub mod HistoryLaws
+pub mod LegalLaws
+pub mod PoolLaws
+pub mod StoreLaws
+pub mod SerialAlone
+pub mod SerialLists
+pub mod SerialNames
+pub mod SerialLocks
+pub mod SerialJournal
+pub mod SerialLaw
+pub mod SerialRows
+pub mod SerialCounterexample

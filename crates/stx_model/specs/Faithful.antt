@@ -1,0 +1,76 @@
+-- When an outcome is a faithful run of a scenario.
+use Rattle.std.specs.Prelude.{◌≡◌, ℕ, ◌<◌, ◌==◌, if◌then◌else◌, List, [], ◌∷◌, map, length, Option, Some, None, slice_get}
+use Rattle.std.specs.List.{fold}
+use Rattle.stx_scenario.specs.declared.scenario.Scenario.{Scenario}
+use Rattle.stx_model.specs.declared.call.Want.{Want}
+use Rattle.stx_model.specs.declared.line.Line.{Line}
+use Rattle.stx_model.specs.declared.outcome.Outcome.{Outcome}
+use Rattle.stx_model.specs.Histories.{pool_notes, store_notes, pool_notes_of, store_notes_of}
+use Rattle.stx_model.specs.Pools.{out}
+use Rattle.stx_model.specs.Stores.{live}
+use Rattle.stx_model.specs.Legal.{PoolLegal, StoreLegal}
+use Rattle.stx_model.specs.Serial.{Serial}
+use Rattle.stx_model.specs.Meanings.{Result, state_of, stop_of}
+use Rattle.stx_model.specs.Script.{script}
+
+-- ---- each client's lines are its script
+
+-- the script of client c over its own notes in the outcome
+abbrev pub script_in : Scenario → Outcome → ℕ → Result
+script_in S O c = script S c (pool_notes_of O.pool c) (store_notes_of O.store c)
+
+-- it is done, has read every note, and its lines are those of the outcome
+pub record IsPlayedOut (S : Scenario) (O : Outcome) (c : ℕ) : Type 0 where
+  pub done : stop_of (script_in S O c) ≡ Some Want.Done
+  pub pool_read : (state_of (script_in S O c)).pool ≡ []
+  pub store_read : (state_of (script_in S O c)).store ≡ []
+  pub lines : slice_get O.lines c ≡ Some (state_of (script_in S O c)).lines
+
+-- ---- brackets
+
+-- what a line does to what is open: it opens or closes the bracket of a number, or finds all of them closed
+pub data Bracket : Type 0 where
+  Opens : ℕ → Bracket
+  Closes : ℕ → Bracket
+  AllClosed : Bracket
+  Neither : Bracket
+
+-- what is open after a bracket, the innermost first; none once a bracket was wrong
+abbrev pub open_after : Option (List ℕ) → Bracket → Option (List ℕ)
+open_after (Some inner) (Opens n) = Some (n ∷ inner)
+open_after (Some (m ∷ outer)) (Closes n) = if m == n then Some outer else None
+open_after (Some []) (Closes n) = None
+open_after (Some []) AllClosed = Some []
+open_after (Some (_ ∷ _)) AllClosed = None
+open_after (Some inner) Neither = Some inner
+open_after None _ = None
+
+-- each bracket is closed, the innermost first
+abbrev pub IsBalanced : List Bracket → Type 0
+IsBalanced brackets = fold open_after (Some []) brackets ≡ Some []
+
+-- a connection is taken and given; a top-level call begins with nothing taken
+abbrev pub connection_bracket : Line → Bracket
+connection_bracket (Line.Take (Some c)) = Opens c
+connection_bracket (Line.Give c) = Closes c
+connection_bracket (Line.Top k) = AllClosed
+connection_bracket _ = Neither
+
+-- ---- the whole
+
+-- everything is given back: no connection is out, no transaction lives, and in each top-level call of each client
+-- the takes and gives are balanced brackets
+pub record IsBack (O : Outcome) : Type 0 where
+  pub pool : out (pool_notes O.pool) ≡ []
+  pub store : live (store_notes O.store) ≡ []
+  pub calls : (c : ℕ) (lines : List Line) → slice_get O.lines c ≡ Some lines → IsBalanced (map connection_bracket lines)
+
+-- the histories are legal, each client's lines are its script over its own notes, the committed transactions are
+-- serial in the order of the journal, and everything is back
+pub record Faithful (S : Scenario) (O : Outcome) : Type 0 where
+  pub pool_legal : PoolLegal (length S.clients) S.settings.pool O.pool
+  pub store_legal : StoreLegal (length S.clients) S.values O.store
+  pub one_trace_each : length O.lines ≡ length S.clients
+  pub scripts : (c : ℕ) → c < length S.clients → IsPlayedOut S O c
+  pub serial : Serial S.values O.store
+  pub back : IsBack O

@@ -1,0 +1,35 @@
+-- Legal histories: each call is proper after its client's own earlier ones, and each answer is the reply to it.
+use Rattle.std.specs.Prelude.{◌≡◌, ℕ, ℤ, ◌<◌, List, [], ◌∷◌, ◌++◌, Some, IsTrue, ⊤}
+use Rattle.stx_model.specs.declared.history.PoolEntry.{PoolEntry}
+use Rattle.stx_model.specs.declared.history.StoreEntry.{StoreEntry}
+use Rattle.stx_model.specs.Histories.{pool_notes_of, store_notes_of}
+use Rattle.stx_model.specs.Pools.{pool_reply, pool_want, pool_proper}
+use Rattle.stx_model.specs.Stores.{store_reply, store_want, store_proper}
+
+-- an entry of the pool fits after those before it
+pub record PoolFits (clients size : ℕ) (before : List PoolEntry) (entry : PoolEntry) : Type 0 where
+  pub client : entry.client < clients
+  pub proper : IsTrue (pool_proper (pool_notes_of before entry.client) (pool_want entry.note))
+  pub reply : pool_reply size before (pool_want entry.note) ≡ Some entry.note
+
+abbrev pub PoolLegalFrom : ℕ → ℕ → List PoolEntry → List PoolEntry → Type 0
+PoolLegalFrom clients size before [] = ⊤
+PoolLegalFrom clients size before (e ∷ es) = PoolFits clients size before e × PoolLegalFrom clients size (before ++ e ∷ []) es
+
+-- a history of a pool of this size, of clients below a count
+abbrev pub PoolLegal : ℕ → ℕ → List PoolEntry → Type 0
+PoolLegal clients size history = PoolLegalFrom clients size [] history
+
+-- an entry of the store fits after those before it
+pub record StoreFits (clients : ℕ) (values : List ℤ) (before : List StoreEntry) (entry : StoreEntry) : Type 0 where
+  pub client : entry.client < clients
+  pub proper : IsTrue (store_proper (store_notes_of before entry.client) (store_want entry.note))
+  pub reply : store_reply values before (store_want entry.note) ≡ Some entry.note
+
+abbrev pub StoreLegalFrom : ℕ → List ℤ → List StoreEntry → List StoreEntry → Type 0
+StoreLegalFrom clients values before [] = ⊤
+StoreLegalFrom clients values before (e ∷ es) = StoreFits clients values before e × StoreLegalFrom clients values (before ++ e ∷ []) es
+
+-- a history of a store with these first values, of clients below a count
+abbrev pub StoreLegal : ℕ → List ℤ → List StoreEntry → Type 0
+StoreLegal clients values history = StoreLegalFrom clients values [] history

@@ -1,0 +1,14 @@
+pub mod Histories
+pub mod Pools
+pub mod Alone
+pub mod Stores
+pub mod Legal
+pub mod Serial
+pub mod Laws
+pub mod Attributes
+pub mod Contexts
+pub mod Meanings
+pub mod Script
+pub mod Faithful
+pub mod Lines
+pub mod Report

@@ -1,0 +1,22 @@
+//! What every part of springtx speaks of: entries, notes, lines, wants, calls and replies, and over them, in `specs`,
+//! the definitions of Spring's transactions, of the pool and the store, and of the report.
+#![tactic(auto)]
+
+mod call;
+mod history;
+mod laws;
+mod line;
+mod manager;
+mod outcome;
+mod token;
+
+pub use call::{Call, PoolAnswer, PoolCall, Reply, StoreAnswer, StoreCall, Want};
+pub use history::{Access, Answer, PoolEntry, PoolNote, StoreEntry, StoreNote};
+pub use laws::journal_is_serial;
+pub use line::{Label, Line};
+pub use manager::{Ending, Kind, Opening, Round};
+pub use outcome::{ClientLines, Outcome, Report, ToolEnd};
+pub use token::{Connection, Session};
+
+#[cfg(test)]
+mod tests;

@@ -1,0 +1,13 @@
+// The tokens carry their numbers.
+use super::*;
+
+#[test]
+fn tokens_carry_their_numbers(rt: HostRuntime) {
+    let connection = Connection::issue(3);
+    let session = Session::issue(4);
+    let numbers = (connection.number(), session.number());
+    connection.retire();
+    session.retire();
+    assert_eq!(rt; numbers.0, 3);
+    assert_eq!(rt; numbers.1, 4);
+}

@@ -1,0 +1,110 @@
+// The pool itself: its history, and which connections are out.
+ghost use Rattle.std.specs.Prelude.{◌≡◌, ◌≤◌, ◌<◌, ◌↔◌, length, not, position, IfOk, OnErr, IsTrue, IsNone};
+ghost use Rattle.stx_model.specs.Histories.{pool_notes, pool_notes_of};
+ghost use Rattle.stx_model.specs.Pools.{out, pool_proper, taken_or_empty};
+ghost use Rattle.stx_pool.specs.Pool.{Replies, unused};
+
+use std::alloc::Global;
+use std::marker::Model;
+use stx_model::{Connection, PoolEntry, PoolNote, Want};
+use stx_scenario::{List, NoMemory};
+
+/// A pool of connections, seen as its size and its history.
+#[derive(Drop)]
+pub struct PoolCore {
+    entries: Vec<PoolEntry>,
+    // Whether each connection is out, from connection 1 on.
+    is_out: Vec<bool>,
+}
+
+impl Model for PoolCore {
+    ghost use Rattle.std.specs.Prelude.{length, vec_capacity};
+    ghost use Rattle.stx_pool.specs.Pool.{Pool, IsSound};
+
+    ghost Value = { Pool };
+
+    ghost view = { λ p. record { size = length p.is_out.items; entries = p.entries.items } };
+
+    ghost invariant = { λ p. IsSound p.is_out.items p.entries.items (vec_capacity p.entries) };
+}
+
+impl PoolCore {
+    /// A pool of the connections 1 to `size`, all in, with an empty history.
+    pub fn new(alloc: Global, size: u32) -> Result<PoolCore, NoMemory>
+        requires least { 1 ≤ size }
+        requires most { size ≤ 64 }
+        ensures { IfOk result (λ pool. pool ≡ unused size) }
+    {
+        Ok(PoolCore {
+            entries: Vec::new(alloc),
+            is_out: vec![in alloc; false; size as usize]?,
+        })
+    }
+
+    /// Takes the least connection that is in, for a client; `None` where every connection is out. The history keeps
+    /// either answer. For want of memory the pool stays as it was.
+    pub fn take(&mut self, _alloc: Global, client: u32) -> Result<Option<Connection>, NoMemory>
+        requires client { client < 64 }
+        requires proper { IsTrue (pool_proper (pool_notes_of self.old.entries client) Want.Take) }
+        ensures ok { IfOk result (λ connection. Replies self.old self.new client Want.Take (taken_or_empty connection)) }
+        ensures empty { IfOk result (λ connection. IsNone connection ↔ (length (out (pool_notes self.old.entries)) ≡ self.old.size)) }
+        ensures err { OnErr result (self.new ≡ self.old) }
+    {
+        // Room for this call, and for the give of each connection that is then out.
+        self.entries.reserve(self.is_out.len() + 1)?;
+        match first_in(&self.is_out) {
+            Some(place) => {
+                let number = place as u32 + 1;
+                self.is_out[place] = true;
+                self.entries.push_reserved(PoolEntry {
+                    client,
+                    note: PoolNote::Taken(number),
+                });
+                Ok(Some(Connection::issue(number)))
+            }
+            None => {
+                self.entries.push_reserved(PoolEntry {
+                    client,
+                    note: PoolNote::Empty,
+                });
+                Ok(None)
+            }
+        }
+    }
+
+    /// Gives a client's connection back. It takes no memory, since the take has kept room for it.
+    pub fn give(&mut self, client: u32, connection: Connection)
+        requires client { client < 64 }
+        requires proper { IsTrue (pool_proper (pool_notes_of self.old.entries client) (Want.Give connection)) }
+        ensures { Replies self.old self.new client (Want.Give connection) (PoolNote.Given connection) }
+    {
+        let number = connection.number();
+        connection.retire();
+        self.is_out[number as usize - 1] = false;
+        self.entries.push_reserved(PoolEntry {
+            client,
+            note: PoolNote::Given(number),
+        });
+    }
+
+    /// The history: each call with its answer, in order.
+    pub fn entries(&self) -> &[PoolEntry]
+        ensures { result.now ≡ self.now.entries }
+    {
+        self.entries.as_slice()
+    }
+
+    /// The history, as a list.
+    pub fn into_entries(self) -> List<PoolEntry>
+        ensures { result ≡ self.entries }
+    {
+        List::from_vec(self.entries)
+    }
+}
+
+// The place of the first connection that is in.
+fn first_in(is_out: &[bool]) -> Option<usize>
+    ensures { result ≡ position (λ flag. not flag) is_out.now }
+{
+    is_out.iter().position(|flag| !*flag)
+}

@@ -1,0 +1,13 @@
+use Rattle.std.proofs.Common.{◌∙◌}
+use Rattle.stx_model.specs.Histories.{store_notes}
+use Rattle.stx_model.specs.declared.history.StoreNote.{StoreNote}
+use Rattle.stx_store.proofs.BlockLaws.{least-more, least-all}
+use Rattle.stx_store.proofs.locks.blocker.Goals as goal
+
+pub loop-entry-preserved : goal.loop-entry-preserved
+loop-entry-preserved c =
+    let more = least-more (store_notes c.args.entries.now) c.args.row.0 c.args.caller c.args.entries.now c.loop-entry.entry-index (record { client = 0; note = StoreNote.Begin 0 }) c.loop-entry-test.true in
+    cc
+
+pub returns : goal.returns
+returns c = c.loop-entry.invariant ∙ least-all c.args.entries.now c.args.row.0 c.args.caller c.loop-entry.entry-index c.loop-entry-test.false

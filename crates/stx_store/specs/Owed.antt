@@ -1,0 +1,45 @@
+-- How many entries the store owes to calls that can't fail: the ends of what has begun.
+use Rattle.std.specs.Prelude.{ℕ, suc, ℤ, ◌+◌, ◌≤◌, Bool, true, false, if◌then◌else◌, List, [], ◌∷◌, length}
+use Rattle.stx_model.specs.declared.history.StoreNote.{StoreNote}
+use Rattle.stx_model.specs.declared.history.StoreEntry.{StoreEntry}
+use Rattle.stx_model.specs.Histories.{store_notes, store_notes_of, total}
+use Rattle.stx_model.specs.Stores.{begun, is_live, savepoints}
+use Rattle.stx_model.specs.Legal.{StoreLegal}
+
+-- a savepoint may be gone back to once and released
+abbrev pub costs : List Bool → ℕ
+costs [] = 0
+costs (false ∷ outer) = costs outer + 2
+costs (true ∷ outer) = costs outer + 1
+
+-- a live transaction has an end, and its savepoints before it
+abbrev pub due : List StoreNote → ℕ → ℕ
+due own t = if is_live own t then costs (savepoints own t) + 1 else 0
+
+-- how many entries more a note makes the store owe at most: a savepoint its return and its release
+abbrev pub added : StoreNote → ℕ
+added (StoreNote.Begin t) = 1
+added (StoreNote.Point t) = 2
+added _ = 0
+
+-- a note of a call that can't fail
+abbrev pub was_owed : StoreNote → Bool
+was_owed (StoreNote.BackTo t) = true
+was_owed (StoreNote.Release t) = true
+was_owed (StoreNote.Commit t n) = true
+was_owed (StoreNote.Rollback t) = true
+was_owed _ = false
+
+-- what is due to the clients below a count, for the transactions up to the number that were begun
+abbrev pub owed_to : ℕ → List StoreEntry → ℕ
+owed_to clients history = total clients (λ c. total (suc (length (begun (store_notes history)))) (due (store_notes_of history c)))
+
+-- what is due to all 64 clients
+unfoldable pub owed_all : List StoreEntry → ℕ
+owed_all history = owed_to 64 history
+
+-- the history is a legal one of 64 clients, and there is room for all that is owed
+pub record IsKept (values : List ℤ) (entries : List StoreEntry) (owed len capacity : ℕ) : Type 0 where
+  pub legal : StoreLegal 64 values entries
+  pub owes : owed_all entries ≤ owed
+  pub room : len + owed ≤ capacity

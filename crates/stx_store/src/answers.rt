@@ -1,0 +1,51 @@
+// What an access is answered.
+ghost use Rattle.std.specs.Prelude.{◌≡◌};
+ghost use Rattle.stx_model.specs.Histories.{store_notes};
+ghost use Rattle.stx_model.specs.Stores.{access_answer, auto_answer};
+ghost use Rattle.stx_store.specs.Cells.{found_at};
+
+use crate::locks::{blocker, row_named};
+use crate::rows::{row_after, value_after};
+use stx_model::{Access, Answer, StoreEntry};
+use stx_scenario::List;
+
+/// An access of a transaction sees the committed rows and the transaction's own work.
+pub(crate) fn access_answered(
+    values: &List<i64>,
+    entries: &[StoreEntry],
+    tx: u32,
+    access: Access,
+) -> Answer
+    ensures { result ≡ access_answer values.now entries.now tx access }
+{
+    let row = row_named(access);
+    match blocker(entries, row, Some(tx)) {
+        Some(other) => Answer::Busy(other),
+        None => answer_at(
+            access,
+            value_after(entries, tx, row, row_after(values, entries, row)),
+        ),
+    }
+}
+
+/// A statement outside a transaction sees the committed rows.
+pub(crate) fn auto_answered(values: &List<i64>, entries: &[StoreEntry], access: Access) -> Answer
+    ensures { result ≡ auto_answer values.now entries.now access }
+{
+    let row = row_named(access);
+    match blocker(entries, row, None) {
+        Some(other) => Answer::Busy(other),
+        None => answer_at(access, row_after(values, entries, row)),
+    }
+}
+
+/// What an access answers where its row has this value.
+fn answer_at(access: Access, value: Option<i64>) -> Answer
+    ensures { result ≡ found_at value access }
+{
+    match (access, value) {
+        (Access::Read(_), Some(found)) => Answer::Found(found),
+        (Access::Read(_), None) => Answer::Absent,
+        _ => Answer::Done,
+    }
+}
