@@ -187,17 +187,7 @@ fn faults_have_statuses(rt: HostRuntime) -> Result<(), Fail> {
     Ok(())
 }
 
-#[test]
-fn long_input_is_too_long(rt: HostRuntime) -> Result<(), Fail> {
-    let alloc = rt.alloc();
-    let (end, taken) = played(alloc, vec![in alloc; b'#'; 1_048_577]?, &[], &[])?;
-    assert_eq!(rt; end.status, 7);
-    assert!(rt; taken.is_empty());
-    let (end, taken) = played(alloc, vec![in alloc; b'#'; 1_048_576]?, &[], &[])?;
-    assert_eq!(rt; end.status, 4);
-    assert_eq!(rt; taken.as_slice(), b"refused 17 NotYet\n".as_slice());
-    Ok(())
-}
+static OTHER_WORDS: [&[&str]; 3] = [&["--do", "jump"], &["play"], &[]];
 
 #[test]
 fn other_words_state_no_job(rt: HostRuntime) -> Result<(), Fail> {
@@ -206,11 +196,7 @@ fn other_words_state_no_job(rt: HostRuntime) -> Result<(), Fail> {
         read_words(words(alloc, &["--do", "play"])?.as_slice()),
         Some(Job::Play)
     );
-    for texts in [
-        ["--do", "jump"].as_slice(),
-        ["play"].as_slice(),
-        [].as_slice(),
-    ] {
+    for texts in OTHER_WORDS.iter() {
         let words = words(alloc, texts)?;
         assert_eq!(rt; read_words(words.as_slice()), None);
         let mut source = MemorySource::new(Vec::new(alloc), 16, Vec::new(alloc));
