@@ -164,26 +164,39 @@ fn bytes_that_are_no_text_are_refused(rt: HostRuntime) -> Result<(), Fail> {
     Ok(())
 }
 
+/// Reads or writes that fail, and how the tool then ends.
+struct Failing {
+    reads: &'static [u64],
+    writes: &'static [u64],
+    status: u8,
+    text: &'static str,
+}
+
+static FAILING: [Failing; 2] = [
+    Failing {
+        reads: &[2],
+        writes: &[],
+        status: 3,
+        text: "",
+    },
+    Failing {
+        reads: &[],
+        writes: &[2],
+        status: 5,
+        text: "springtx 1\nclien",
+    },
+];
+
 #[test]
 fn faults_have_statuses(rt: HostRuntime) -> Result<(), Fail> {
     let alloc = rt.alloc();
-    let (end, taken) = played(
-        alloc,
-        Vec::from_slice(alloc, WRITES_AND_READS.as_bytes())?,
-        &[2],
-        &[],
-    )?;
-    assert_eq!(rt; end.status, 3);
-    assert!(rt; taken.is_empty());
-    let (end, taken) = played(
-        alloc,
-        Vec::from_slice(alloc, WRITES_AND_READS.as_bytes())?,
-        &[],
-        &[2],
-    )?;
-    assert_eq!(rt; end.status, 5);
-    assert_eq!(rt; taken.as_slice(), b"springtx 1\nclien".as_slice());
-    assert!(rt; end.report.is_some());
+    for case in FAILING.iter() {
+        let bytes = Vec::from_slice(alloc, WRITES_AND_READS.as_bytes())?;
+        let (end, taken) = played(alloc, bytes, case.reads, case.writes)?;
+        assert_eq!(rt; end.status, case.status);
+        assert_eq!(rt; taken.as_slice(), case.text.as_bytes());
+        assert_eq!(rt; end.report.is_some(), case.status == 5);
+    }
     Ok(())
 }
 
