@@ -7,3 +7,4 @@ pub mod OneCallLaws
 pub mod OneCallFaithful
 pub mod ReportLaws
 pub mod RowValues
+pub mod ToolLaws

@@ -21,12 +21,13 @@ use Rattle.stx_model.specs.Stores.{begun_by, begun, ends, live, store_reply}
 use Rattle.stx_model.specs.Legal.{PoolLegal, StoreLegal}
 use Rattle.stx_model.specs.Contexts.{bare}
 use Rattle.stx_model.specs.Meanings.{State, Over, Stops, state_of, stop_of, finally, ask, store_line, say}
-use Rattle.stx_model.specs.Script.{script, tops, invoke, intercepted, fresh, opened, commits, owns_fresh, started_syncs, body_of, calls_of}
+use Rattle.stx_model.specs.Weight.{body_in, body_of}
+use Rattle.stx_model.specs.Script.{script, tops, invoke, intercepted, fresh, begins, opened, completes, gives_back, owns_fresh, started_syncs, calls_of}
 use Rattle.stx_model.specs.Faithful.{Faithful, script_in, IsPlayedOut, IsBalanced, open_after, connection_bracket}
 use Rattle.stx_model.proofs.LegalLaws.{StoreLegal-push}
 use Rattle.stx_model.proofs.SerialLaw.{journal_serial}
 use Rattle.springtx.specs.Reading.{default_attribute}
-use Rattle.springtx.specs.OneCall.{the_no, IsOneCall, IsOpen, accesses_row, row_access, accesses, by_client, access_note, answered, access_notes, begun_only, before_commit, commit_number, all_entries, one_trace, one_played}
+use Rattle.springtx.specs.OneCall.{the_one, IsOneCall, IsOpen, accesses_row, row_access, accesses, by_client, access_note, answered, access_notes, begun_only, before_commit, commit_number, all_entries, one_trace, one_played}
 use Rattle.springtx.proofs.OneCallLaws.{none_begun, commit_proper, open_next, open_first, body_script}
 
 -- ---- the accesses of a transaction
@@ -100,46 +101,46 @@ abbrev at : List Line → List PoolNote → List StoreNote → State
 at lines pool store = record { lines = lines; context = bare; marked = false; pool = pool; store = store }
 
 scope : (S : Scenario) → IsOneCall S → (lines : List Line)
-    → let made = accesses (body_of S the_no) in
-    fresh S the_no default_attribute (at lines (PoolNote.Taken 1 ∷ PoolNote.Given 1 ∷ [])
+    → let made = accesses (body_of S the_one) in
+    fresh S the_one default_attribute (at lines (PoolNote.Taken 1 ∷ PoolNote.Given 1 ∷ [])
     (StoreNote.Begin 1 ∷ (access_notes S.values made ++ StoreNote.Commit 1 (commit_number S.values made) ∷ [])))
     ≡ Over None (at ((((lines ++ Line.Take (Some 1) ∷ []) ++ Line.Begin 1 ∷ []) ++ Line.Opened Kind.Fresh (owns_fresh S.settings.mode) ∷ []) ++ map store_line (access_notes S.values made)
-    ++ Line.End Ending.Commit ∷ [] ++ Line.Commit 1 (commit_number S.values made) ∷ [] ++ Line.Give 1 ∷ [] ++ Line.Leave the_no None ∷ []) [] [])
-unfolding fresh opened commits ask
+    ++ Line.End Ending.Commit ∷ [] ++ Line.Commit 1 (commit_number S.values made) ∷ [] ++ Line.Give 1 ∷ [] ++ Line.Leave the_one None ∷ []) [] [])
+unfolding fresh begins opened completes gives_back ask
 scope S o lines =
     let owns = owns_fresh S.settings.mode in
-    let made = accesses (body_of S the_no) in
-    rw (body_script S.values begun_only (record { connection = 1; transaction = 1; read_only = false; mark = false }) (started_syncs owns) (body_of S the_no)
+    let made = accesses (body_of S the_one) in
+    rw (body_script S.values begun_only (record { connection = 1; transaction = 1; read_only = false; mark = false }) (started_syncs owns) (body_of S the_one)
     (((lines ++ Line.Take (Some 1) ∷ []) ++ Line.Begin 1 ∷ []) ++ Line.Opened Kind.Fresh owns ∷ [])
-    (PoolNote.Given 1 ∷ []) (StoreNote.Commit 1 (commit_number S.values made) ∷ []) (open_first S.values (length (body_of S the_no)) o.few) o.body) refl
+    (PoolNote.Given 1 ∷ []) (StoreNote.Commit 1 (commit_number S.values made) ∷ []) (open_first S.values (length (body_of S the_one)) o.few) o.body) refl
 
 tail_lines : (made : List Line) (a b c d : Line) → (((made ++ a ∷ []) ++ b ∷ []) ++ c ∷ []) ++ d ∷ [] ≡ (made ++ a ∷ b ∷ []) ++ c ∷ d ∷ []
 tail_lines made a b c d = simp append_assoc
 
-invoke_is : (S : Scenario) → IsOneCall S → (st : State) → invoke S the_no st ≡ fresh S the_no default_attribute (say (Line.Call the_no Propagation.Required false) st)
+invoke_is : (S : Scenario) → IsOneCall S → (st : State) → invoke S the_one st ≡ fresh S the_one default_attribute (say (Line.Call the_one Propagation.Required false) st)
 unfolding invoke
-invoke_is S o st = ap (λ a. intercepted S the_no a st) o.tx
+invoke_is S o st = ap (λ a. intercepted S the_one a st) o.tx
 
-one_top : (S : Scenario) (st after : State) → invoke S the_no (say (Line.Top 0) st) ≡ Over None after → tops S 0 (the_no ∷ []) st ≡ Stops Want.Done after
+one_top : (S : Scenario) (st after : State) → invoke S the_one (say (Line.Top 0) st) ≡ Over None after → tops S 0 (the_one ∷ []) st ≡ Stops Want.Done after
 unfolding tops
 one_top S st after over = ap (λ r. finally r (λ _. Stops Want.Done)) over
 
 one_script : (S : Scenario) → IsOneCall S
     → script S 0 (PoolNote.Taken 1 ∷ PoolNote.Given 1 ∷ [])
-    (StoreNote.Begin 1 ∷ (access_notes S.values (accesses (body_of S the_no)) ++ StoreNote.Commit 1 (commit_number S.values (accesses (body_of S the_no))) ∷ []))
+    (StoreNote.Begin 1 ∷ (access_notes S.values (accesses (body_of S the_one)) ++ StoreNote.Commit 1 (commit_number S.values (accesses (body_of S the_one))) ∷ []))
     ≡ Stops Want.Done (at (one_trace S) [] [])
 unfolding script
 one_script S o =
-    let made = accesses (body_of S the_no) in
+    let made = accesses (body_of S the_one) in
     let n = commit_number S.values made in
     let pool = PoolNote.Taken 1 ∷ PoolNote.Given 1 ∷ [] in
     let store = StoreNote.Begin 1 ∷ (access_notes S.values made ++ StoreNote.Commit 1 n ∷ []) in
-    let calls : calls_of S 0 ≡ the_no ∷ [] = ap (λ cs. unwrap_or (slice_get cs 0) []) o.clients in
-    let over = invoke_is S o (at (Line.Top 0 ∷ []) pool store) ∙ scope S o (Line.Top 0 ∷ Line.Call the_no Propagation.Required false ∷ []) in
+    let calls : calls_of S 0 ≡ the_one ∷ [] = ap (λ cs. unwrap_or (slice_get cs 0) []) o.clients in
+    let over = invoke_is S o (at (Line.Top 0 ∷ []) pool store) ∙ scope S o (Line.Top 0 ∷ Line.Call the_one Propagation.Required false ∷ []) in
     ap (λ cs. tops S 0 cs (at [] pool store)) calls
     ∙ one_top S (at [] pool store) _ over
-    ∙ ap (λ ls. Stops Want.Done (at (Line.Top 0 ∷ Line.Call the_no Propagation.Required false ∷ Line.Take (Some 1) ∷ Line.Begin 1 ∷ Line.Opened Kind.Fresh (owns_fresh S.settings.mode) ∷ ls) [] []))
-    (tail_lines (map store_line (access_notes S.values made)) (Line.End Ending.Commit) (Line.Commit 1 n) (Line.Give 1) (Line.Leave the_no None))
+    ∙ ap (λ ls. Stops Want.Done (at (Line.Top 0 ∷ Line.Call the_one Propagation.Required false ∷ Line.Take (Some 1) ∷ Line.Begin 1 ∷ Line.Opened Kind.Fresh (owns_fresh S.settings.mode) ∷ ls) [] []))
+    (tail_lines (map store_line (access_notes S.values made)) (Line.End Ending.Commit) (Line.Commit 1 n) (Line.Give 1) (Line.Leave the_one None))
 
 -- ---- brackets
 
@@ -157,11 +158,11 @@ rows_between t (StoreNote.Auto a r ∷ ns) rest inner all = absurd (false≢true
 
 balanced : (S : Scenario) → IsBalanced (map connection_bracket (one_trace S))
 balanced S =
-    let made = accesses (body_of S the_no) in
+    let made = accesses (body_of S the_one) in
     let n = commit_number S.values made in
     let ns = access_notes S.values made in
-    rw (append_assoc (map store_line ns) (Line.End Ending.Commit ∷ Line.Commit 1 n ∷ []) (Line.Give 1 ∷ Line.Leave the_no None ∷ []))
-    (rows_between 1 ns (Line.End Ending.Commit ∷ Line.Commit 1 n ∷ Line.Give 1 ∷ Line.Leave the_no None ∷ []) (1 ∷ []) (answered_access S.values begun_only 1 made))
+    rw (append_assoc (map store_line ns) (Line.End Ending.Commit ∷ Line.Commit 1 n ∷ []) (Line.Give 1 ∷ Line.Leave the_one None ∷ []))
+    (rows_between 1 ns (Line.End Ending.Commit ∷ Line.Commit 1 n ∷ Line.Give 1 ∷ Line.Leave the_one None ∷ []) (1 ∷ []) (answered_access S.values begun_only 1 made))
 
 only_trace : (trace : List Line) (c : ℕ) (lines : List Line) → slice_get (trace ∷ []) c ≡ Some lines → trace ≡ lines
 only_trace trace zero lines here = cc
@@ -176,7 +177,7 @@ pool_legal (suc size) some = (record { client = lit< tt; proper = refl; reply = 
 
 played_out : (S : Scenario) → IsOneCall S → IsPlayedOut S (one_played S) 0
 played_out S o =
-    let made = accesses (body_of S the_no) in
+    let made = accesses (body_of S the_one) in
     let script_is : script_in S (one_played S) 0 ≡ Stops Want.Done (at (one_trace S) [] []) =
     ap (script S 0 (PoolNote.Taken 1 ∷ PoolNote.Given 1 ∷ [])) (all_notes S.values made) ∙ one_script S o in
     record {
@@ -188,9 +189,9 @@ played_out S o =
 
 pub one_is_faithful : (S : Scenario) → IsOneCall S → Faithful S (one_played S)
 one_is_faithful S o =
-    let made = accesses (body_of S the_no) in
+    let made = accesses (body_of S the_one) in
     let clients : length S.clients ≡ 1 = ap length o.clients in
-    let legal : StoreLegal 1 S.values (all_entries S.values made) = entries_legal S.values made (few_accesses (body_of S the_no) o.few) in
+    let legal : StoreLegal 1 S.values (all_entries S.values made) = entries_legal S.values made (few_accesses (body_of S the_one) o.few) in
     record {
       pool_legal = subst (λ n. PoolLegal n S.settings.pool (one_played S).pool) (sym clients) (pool_legal S.settings.pool o.some);
       store_legal = subst (λ n. StoreLegal n S.values (all_entries S.values made)) (sym clients) legal;
@@ -209,5 +210,5 @@ one_is_faithful S o =
     first c below = omega arith
 
 -- the body of the one method, as the code finds it
-pub body_is : (S : Scenario) (m : Method) → slice_get S.methods 0 ≡ Some m → body_of S the_no ≡ m.body
-body_is S m found = ap (λ o. unwrap_or (option_map (λ method. method.body) o) []) found
+pub body_is : (S : Scenario) (m : Method) → slice_get S.methods 0 ≡ Some m → body_of S the_one ≡ m.body
+body_is S m found = ap body_in found

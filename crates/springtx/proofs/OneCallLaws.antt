@@ -21,7 +21,7 @@ use Rattle.stx_model.specs.Alone.{RowMap, found_or_absent, finds, row_of, after}
 use Rattle.stx_model.specs.Stores.{begun, ends, live, is_live, is_busy, takes, conflicts, savepoints, pointed, work, committed_rows, access_answer, store_reply, store_proper, journal}
 use Rattle.stx_model.specs.Contexts.{Context, Live, Registration}
 use Rattle.stx_model.specs.Meanings.{State, Result, Over, Breaks, Meaning, Note, FromStore, is_answer, hear, heard, ask, on_access, same_access, suits, store_line}
-use Rattle.stx_model.specs.Script.{row_answered, statement, body}
+use Rattle.stx_model.specs.Script.{unless_busy, nothing_more, statement, body}
 use Rattle.stx_model.proofs.HistoryLaws.{store_notes-push, store_notes_of-push}
 use Rattle.stx_model.proofs.LegalLaws.{StoreLegal-push}
 use Rattle.springtx.specs.OneCall.{row_access, accesses, by_client, access_note, answered, begun_only, accesses_row, IsUnderWay, IsOpen, is_row_statement}
@@ -155,7 +155,8 @@ open_next values E t calls a o =
 
 -- ---- the script of the body
 
-row_free : (r : Answer) (st : State) → is_busy r ≡ false → row_answered r st ≡ Over None st
+-- a free answer never throws
+row_free : (r : Answer) (st : State) → is_busy r ≡ false → unless_busy nothing_more r st ≡ Over None st
 row_free (Answer.Busy t) st free = absurd (false≢true (sym free))
 row_free (Answer.Found v) st free = refl
 row_free Answer.Absent st free = refl
@@ -174,10 +175,10 @@ repeats t a r suited = rw (is_itself t, same_itself a, suited)
 
 asked : (t : ℕ) (a : Access) (r : Answer) (lines : List Line) (context : Context) (pool : List PoolNote) (rest : List StoreNote)
     → suits a r ≡ true → is_busy r ≡ false
-    → ask (Want.Access t a) (on_access row_answered) (at lines context pool (StoreNote.Access t a r ∷ rest)) ≡ Over None (at (lines ++ Line.Row t a r ∷ []) context pool rest)
+    → ask (Want.Access t a) (on_access (unless_busy nothing_more)) (at lines context pool (StoreNote.Access t a r ∷ rest)) ≡ Over None (at (lines ++ Line.Row t a r ∷ []) context pool rest)
 unfolding ask
 asked t a r lines context pool rest suited free =
-    heard-true (Want.Access t a) (on_access row_answered) (at lines context pool (StoreNote.Access t a r ∷ rest)) (FromStore (StoreNote.Access t a r)) (repeats t a r suited)
+    heard-true (Want.Access t a) (on_access (unless_busy nothing_more)) (at lines context pool (StoreNote.Access t a r ∷ rest)) (FromStore (StoreNote.Access t a r)) (repeats t a r suited)
     ∙ row_free r (at (lines ++ Line.Row t a r ∷ []) context pool rest) free
 
 -- the context of a live transaction

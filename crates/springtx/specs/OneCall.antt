@@ -18,7 +18,8 @@ use Rattle.stx_model.specs.Legal.{StoreLegal}
 use Rattle.stx_model.specs.Stores.{access_answer, journal}
 use Rattle.stx_model.specs.Meanings.{store_line}
 use Rattle.stx_model.specs.Attributes.{attribute}
-use Rattle.stx_model.specs.Script.{owns_fresh, body_of}
+use Rattle.stx_model.specs.Weight.{body_of}
+use Rattle.stx_model.specs.Script.{owns_fresh}
 use Rattle.springtx.specs.Reading.{default_attribute}
 
 -- ---- the scenarios that are built so far
@@ -32,16 +33,17 @@ row_access _ = None
 abbrev pub is_row_statement : Stmt → Bool
 is_row_statement statement = is_some (row_access statement)
 
-abbrev pub the_no : MethodNo
-the_no = record { 0 = 0 }
+-- the one method
+abbrev pub the_one : MethodNo
+the_one = record { 0 = 0 }
 
 -- one client calls once the one method, whose attribute is the default and whose body reads and writes
 pub record IsOneCall (S : Scenario) : Type 0 where
-  pub clients : S.clients ≡ (the_no ∷ []) ∷ []
+  pub clients : S.clients ≡ (the_one ∷ []) ∷ []
   pub methods : 0 < length S.methods
-  pub tx : attribute S the_no ≡ Some default_attribute
-  pub body : list_all is_row_statement (body_of S the_no) ≡ true
-  pub few : length (body_of S the_no) ≤ 256
+  pub tx : attribute S the_one ≡ Some default_attribute
+  pub body : list_all is_row_statement (body_of S the_one) ≡ true
+  pub few : length (body_of S the_one) ≤ 256
   pub rows : length S.row_names ≤ 256
   pub some : 1 ≤ S.settings.pool
   pub most : S.settings.pool ≤ 64
@@ -111,19 +113,20 @@ abbrev pub transaction_lines : List ℤ → Bool → List Access → List Line
 transaction_lines values owns made =
     begin_lines owns ++ map store_line (access_notes values made) ++ commit_lines (commit_number values made)
 
+-- the lines before the taking of a connection, and from its giving on
 abbrev pub call_lines : List Line
-call_lines = Line.Top 0 ∷ Line.Call the_no Propagation.Required false ∷ Line.Take (Some 1) ∷ []
+call_lines = Line.Top 0 ∷ Line.Call the_one Propagation.Required false ∷ []
 
-abbrev pub leave_lines : List Line
-leave_lines = Line.Give 1 ∷ Line.Leave the_no None ∷ []
+abbrev pub leave_lines : ℕ → List Line
+leave_lines connection = Line.Give connection ∷ Line.Leave the_one None ∷ []
 
 abbrev pub one_trace : Scenario → List Line
 one_trace S =
-    call_lines ++ transaction_lines S.values (owns_fresh S.settings.mode) (accesses (body_of S the_no)) ++ leave_lines
+    (call_lines ++ Line.Take (Some 1) ∷ []) ++ transaction_lines S.values (owns_fresh S.settings.mode) (accesses (body_of S the_one)) ++ leave_lines 1
 
 abbrev pub one_played : Scenario → Outcome
 one_played S = record {
   lines = one_trace S ∷ [];
   pool = record { client = 0; note = PoolNote.Taken 1 } ∷ record { client = 0; note = PoolNote.Given 1 } ∷ [];
-  store = all_entries S.values (accesses (body_of S the_no));
+  store = all_entries S.values (accesses (body_of S the_one));
 }

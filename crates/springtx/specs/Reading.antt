@@ -81,9 +81,16 @@ with_bean beans bean = if has_bean beans bean.name then None else Some (beans ++
 abbrev pub bean_at : List Bean → Data → Option (List Bean)
 bean_at beans d = as_table d >>= bean_in >>= with_bean beans
 
--- 1 to 256 of them
+-- the most beans, and the most statements of a body
+abbrev pub most_beans : ℕ
+most_beans = 256
+
+abbrev pub most_statements : ℕ
+most_statements = 256
+
+-- one at least, and not too many
 unfoldable pub bean_list : Items → Option (List Bean)
-bean_list items = if nat_le 1 (count items) && nat_le (count items) 256 then read_each bean_at items [] else None
+bean_list items = if nat_le 1 (count items) && nat_le (count items) most_beans then read_each bean_at items [] else None
 
 -- ---- the method
 
@@ -93,9 +100,9 @@ bean_place beans name = position (λ bean. bytes_eq bean.name name) beans
 abbrev pub bean_no : ℕ → BeanNo
 bean_no place = record { 0 = place }
 
--- at most 256 statements
+-- not too many statements
 abbrev pub body_items : Items → Option Draft
-body_items items = if nat_le (count items) 256 then statements_in items else None
+body_items items = if nat_le (count items) most_statements then statements_in items else None
 
 -- none where there is no body
 abbrev pub body_in : Option Data → Option Draft

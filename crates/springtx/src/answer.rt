@@ -6,6 +6,7 @@ ghost use Rattle.stx_model.specs.Stores.{committed_rows};
 ghost use Rattle.springtx.specs.Jobs.{refusal_text as text_of};
 ghost use Rattle.springtx.specs.OneCall.{IsOneCall};
 ghost use Rattle.springtx.specs.ReportRows.{values_from};
+ghost use Rattle.springtx.specs.Tool.{IsAnswerTo};
 
 use crate::fault::ReadFault;
 use crate::play::play;
@@ -24,8 +25,6 @@ pub enum Answer {
     /// The bytes denote no scenario: the refusal's text.
     Refused(Vec<u8>),
 }
-
-ghost use Rattle.springtx.specs.Tool.{IsAnswerTo};
 
 /// Reads a scenario, plays it and makes its report's text, or the text of its refusal.
 #[tactic(auto, using(crate::proofs::ReadingBuilt::built))]

@@ -1,5 +1,5 @@
 // Plays the one call of one client over a pool and a store of its own.
-ghost use Rattle.std.specs.Prelude.{◌≡◌, ◌≤◌, ◌++◌, ◌∷◌, [], IfOk, OnOk, map, length};
+ghost use Rattle.std.specs.Prelude.{◌≡◌, ◌≤◌, ◌++◌, ◌∷◌, [], IfOk, OnOk, Some, map, length};
 ghost use Rattle.stx_model.specs.Faithful.{Faithful};
 ghost use Rattle.stx_model.specs.Meanings.{store_line};
 ghost use Rattle.stx_model.specs.Script.{owns_fresh as owns_in};
@@ -43,29 +43,49 @@ fn play_call(alloc: Global, scenario: &Scenario) -> Result<Outcome, NoMemory>
         Some(connection) => connection,
         None => unreachable!(),
     };
+    let number = connection.number();
     let owns = owns_fresh(scenario.settings.mode);
-    match play_transaction(alloc, &accesses, owns, &mut store, &mut lines) {
+    match play_taken(alloc, number, &accesses, owns, &mut store, &mut lines) {
         Ok(()) => pool.give(CLIENT, connection),
         Err(fault) => {
             connection.retire();
             return Err(fault);
         }
     }
-    let outcome = finished(alloc, lines, pool, store)?;
+    let outcome = finished(alloc, number, lines, pool, store)?;
     Ok(outcome)
+}
+
+/// Plays the transaction of the call on a connection that was taken, and adds the line of the taking before its lines.
+fn play_taken(
+    alloc: Global,
+    connection: u32,
+    accesses: &[Access],
+    owns: bool,
+    store: &mut StoreCore,
+    lines: &mut ClientLines,
+) -> Result<(), NoMemory>
+    requires unused { store.old.entries ≡ [] }
+    requires few { length accesses.now ≤ 256 }
+    ensures entries { OnOk result (store.new.entries ≡ all_entries store.old.values accesses.now) }
+    ensures lines { OnOk result (lines.new ≡ (lines.old ++ LineData.Take (Some connection) ∷ []) ++ transaction_lines store.old.values owns accesses.now) }
+{
+    lines.push(Line::Take(Some(connection)))?;
+    play_transaction(alloc, accesses, owns, store, lines)
 }
 
 /// The outcome of the call, with its last lines.
 fn finished(
     alloc: Global,
+    connection: u32,
     lines: ClientLines,
     pool: PoolCore,
     store: StoreCore,
 ) -> Result<Outcome, NoMemory>
-    ensures { IfOk result (λ outcome. outcome ≡ record { lines = (lines ++ leave_lines) ∷ []; pool = pool.entries; store = store.entries }) }
+    ensures { IfOk result (λ outcome. outcome ≡ record { lines = (lines ++ leave_lines connection) ∷ []; pool = pool.entries; store = store.entries }) }
 {
     let mut lines = lines;
-    lines.push(Line::Give(1))?;
+    lines.push(Line::Give(connection))?;
     lines.push(Line::Leave {
         method: METHOD,
         thrown: None,
@@ -79,7 +99,7 @@ fn finished(
     })
 }
 
-/// The lines of the call up to the taking of connection 1.
+/// The lines of the call before it takes a connection.
 fn call_lines(alloc: Global) -> Result<ClientLines, NoMemory>
     ensures { IfOk result (λ lines. lines ≡ lines_of_call) }
 {
@@ -90,7 +110,6 @@ fn call_lines(alloc: Global) -> Result<ClientLines, NoMemory>
         propagation: Propagation::Required,
         read_only: false,
     })?;
-    lines.push(Line::Take(Some(1)))?;
     Ok(lines)
 }
 

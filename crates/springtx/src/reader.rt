@@ -8,7 +8,11 @@ ghost use Rattle.std.specs.Str.{bytes_eq};
 ghost use Rattle.stx_model.specs.Lines.{method_name};
 ghost use Rattle.springtx.specs.Items.{read_each};
 ghost use Rattle.toml.specs.View.{view, table_view, items_view, array_view};
-ghost use Rattle.springtx.specs.Reading.{text_at as text_of, items_at as items_of, table_at as table_of, has_only as only_test, the_only as only_of, name_in as name_of, bean_in as bean_of, bean_at as bean_item, has_bean as has_bean_test, bean_named as bean_named_of, defaults_in as defaults_of, bean_list as bean_list_of, bean_place as bean_place_of, body_in as body_of, method_in as method_of, call_in as call_of, the_table_at as the_table_of, the_beans as the_beans_of, the_method as the_method_of, the_call as the_call_of, drafted_method, one_call as one_call_of, scenario_in as scenario_read, document_of, scenario_of};
+ghost use Rattle.springtx.specs.Reading.{text_at as text_of, items_at as items_of, table_at as table_of, has_only as only_test, the_only as only_of};
+ghost use Rattle.springtx.specs.Reading.{name_in as name_of, bean_in as bean_of, bean_at as bean_item, has_bean as has_bean_test, bean_list as bean_list_of};
+ghost use Rattle.springtx.specs.Reading.{bean_place as bean_place_of, bean_named as bean_named_of, defaults_in as defaults_of, body_in as body_of, method_in as method_of, drafted_method, most_beans};
+ghost use Rattle.springtx.specs.Reading.{call_in as call_of, the_table_at as the_table_of, the_beans as the_beans_of, the_method as the_method_of, the_call as the_call_of};
+ghost use Rattle.springtx.specs.Reading.{one_call as one_call_of, scenario_in as scenario_read, document_of, scenario_of};
 
 use crate::fault::ReadFault;
 use crate::names::is_name;
@@ -20,6 +24,12 @@ use stx_scenario::{
     SyncMode, TxAttr, built_in_classes,
 };
 use toml::{Table, Value};
+
+/// The most beans of a scenario.
+const MOST_BEANS: usize = 256;
+
+/// The most statements of a body.
+const MOST_STATEMENTS: usize = 256;
 
 /// What is read of the method.
 #[derive(Debug, Drop)]
@@ -157,14 +167,14 @@ fn beans_in(alloc: Global, items: &[Value]) -> Result<Option<List<Bean>>, NoMemo
     Ok(Some(beans))
 }
 
-/// Reads 1 to 256 beans.
+/// Reads one bean at least, and not too many.
 #[tactic(auto, using(crate::proofs::ReadingLaws::count_items), unfolding(crate::specs::Reading::bean_list))]
 fn bean_list(alloc: Global, items: &[Value]) -> Result<Option<List<Bean>>, NoMemory>
     ensures read { IfOk result (λ read. read ≡ bean_list_of (items_view items.now)) }
-    ensures few { IfOk result (λ read. IfSome read (λ beans. length beans ≤ 256)) }
+    ensures few { IfOk result (λ read. IfSome read (λ beans. length beans ≤ most_beans)) }
 {
     let count = items.len();
-    if count < 1 || count > 256 {
+    if count < 1 || count > MOST_BEANS {
         return Ok(None);
     }
     beans_in(alloc, items)
@@ -210,7 +220,7 @@ fn body_in(alloc: Global, table: &Table) -> Result<Option<Draft>, NoMemory>
     let Some(items) = value.as_array() else {
         return Ok(None);
     };
-    if items.len() > 256 {
+    if items.len() > MOST_STATEMENTS {
         return Ok(None);
     }
     statements_in(alloc, items)
@@ -219,7 +229,7 @@ fn body_in(alloc: Global, table: &Table) -> Result<Option<Draft>, NoMemory>
 /// Reads a method of one of these beans.
 #[tactic(auto, unfolding(crate::specs::Reading::method_in))]
 fn method_in(alloc: Global, beans: &[Bean], table: &Table) -> Result<Option<MethodDraft>, NoMemory>
-    requires { length beans.now ≤ 256 }
+    requires { length beans.now ≤ most_beans }
     ensures { IfOk result (λ read. read ≡ method_of beans.now (table_view table.now)) }
 {
     if !has_only(table, &["bean", "name", "tx", "body"]) {
@@ -272,7 +282,7 @@ fn the_table_at<'a>(root: &'a Table, key: &str) -> Option<&'a Table>
 
 fn the_beans(alloc: Global, root: &Table) -> Result<Option<List<Bean>>, NoMemory>
     ensures read { IfOk result (λ read. read ≡ the_beans_of (table_view root.now)) }
-    ensures few { IfOk result (λ read. IfSome read (λ beans. length beans ≤ 256)) }
+    ensures few { IfOk result (λ read. IfSome read (λ beans. length beans ≤ most_beans)) }
 {
     match items_at(root, "beans") {
         Some(items) => bean_list(alloc, items),
@@ -281,7 +291,7 @@ fn the_beans(alloc: Global, root: &Table) -> Result<Option<List<Bean>>, NoMemory
 }
 
 fn the_method(alloc: Global, beans: &[Bean], root: &Table) -> Result<Option<MethodDraft>, NoMemory>
-    requires { length beans.now ≤ 256 }
+    requires { length beans.now ≤ most_beans }
     ensures { IfOk result (λ read. read ≡ the_method_of beans.now (table_view root.now)) }
 {
     match the_table_at(root, "methods") {

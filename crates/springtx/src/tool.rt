@@ -1,6 +1,6 @@
 // The tool, over any source and any sink.
 ghost use Rattle.std.specs.Prelude.{◌≡◌, ◌≢◌, ◌⊎◌, ◌↔◌, IsTrue, None, IsNone};
-ghost use Rattle.stx_outside.specs.Streams.{Rose, GainsEnd, GainsPrefix, LosesMore};
+ghost use Rattle.stx_outside.specs.Streams.{Rose, GainsEnd, GainsPrefix, LosesMore, LosesWithin};
 ghost use Rattle.springtx.specs.Jobs.{job_of};
 ghost use Rattle.springtx.specs.Tool.{is_status, is_early, most_bytes, IsPlayed, IsRefused};
 
@@ -46,6 +46,7 @@ pub fn read_words(words: &[String]) -> Option<Job>
 /// Plays the scenario that a source holds, and writes its report to a sink. It waits for nobody.
 ///
 /// The whole text is made before the first write. The statuses of the end are those of `ToolEnd`.
+#[tactic(auto, using(crate::proofs::ToolLaws::all_within))]
 pub fn tool<S: Source, K: Sink>(
     alloc: Global,
     words: &[String],
@@ -72,6 +73,9 @@ pub fn tool<S: Source, K: Sink>(
     ensures cut_short { result.status ≡ 5 →
         IsPlayed (S.left source.old) (S.left source.new) (GainsPrefix (K.taken sink.old) (K.taken sink.new)) result
         ⊎ IsRefused (S.left source.old) (S.left source.new) (GainsPrefix (K.taken sink.old) (K.taken sink.new)) result }
+
+    // 6: memory ran out, before more bytes came than a scenario may have.
+    ensures want { result.status ≡ 6 → LosesWithin most_bytes (S.left source.old) (S.left source.new) }
 
     // 7: more bytes came than a scenario may have.
     ensures too_long { result.status ≡ 7 → LosesMore most_bytes (S.left source.old) (S.left source.new) }

@@ -1,4 +1,13 @@
 pub mod WorkedRows
+pub mod Growth
+pub mod ReadsLaw
+pub mod WorkedWeights
+pub mod WayLaws
+pub mod WeightLaws
+pub mod ProperNotes
+pub mod ProperLaw
+pub mod FreshLaw
+pub mod EntriesLaw
 pub mod HistoryLaws
 pub mod LegalLaws
 pub mod PoolLaws
@@ -10,4 +19,6 @@ pub mod SerialLocks
 pub mod SerialJournal
 pub mod SerialLaw
 pub mod SerialRows
+pub mod ReadsRows
 pub mod SerialCounterexample
+mod WorkedClasses

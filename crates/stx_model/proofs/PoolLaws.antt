@@ -1,8 +1,7 @@
 -- The pool's laws: which connections are out in a legal history, and how that changes by one entry.
-use Rattle.std.proofs.Common.{◌≡◌, ◌≢◌, ◌⊎◌, ℕ, zero, suc, ◌+◌, ◌<◌, ◌≤◌, Bool, true, false, not, ◌||◌, ◌==◌, cond, List, [], ◌∷◌, ◌++◌, length, filter, Option, Some, None, refl, sym, ap, ◌∙◌, subst, append-nil, inl, inr, arith, eq-eqb, ne_eqb, eqb-true}
+use Rattle.std.proofs.Common.{◌≡◌, ◌≢◌, ◌⊎◌, ℕ, zero, suc, ◌+◌, ◌<◌, ◌≤◌, Bool, true, false, not, ◌||◌, ◌==◌, cond, List, [], ◌∷◌, ◌++◌, length, Option, Some, None, refl, sym, ap, ◌∙◌, subst, inl, inr, arith, eq-eqb, ne_eqb, eqb-true}
 use Rattle.std.proofs.lemmas.Bool.{false≢true, cases_Bool, cases_eq, or_cases, or_left, or_right, or_parts, and_parts, not_from_true, not_from_false}
 use Rattle.std.proofs.lemmas.List.{map-append}
-use Rattle.std.proofs.lemmas.List.Elements.{filter-append}
 use Rattle.std.proofs.lemmas.List.Sums.{fold-append}
 use Rattle.std.proofs.lemmas.Map.Views.{any-filter_same}
 use Rattle.stx_model.specs.declared.call.Want.{Want}
@@ -11,28 +10,13 @@ use Rattle.stx_model.specs.declared.history.PoolEntry.{PoolEntry}
 use Rattle.stx_model.specs.Histories.{pool_notes, pool_notes_of, has_room}
 use Rattle.stx_model.specs.Pools.{contains, without, out_after, out, first_free, taken_or_empty, pool_reply, pool_want, pool_proper}
 use Rattle.stx_model.specs.Legal.{PoolFits, PoolLegal}
+use Rattle.stx_model.proofs.HistoryLaws.{pool_notes_of-push, pool_notes_of-push_other}
 use Rattle.stx_model.proofs.LegalLaws.{PoolLegal-along}
 
 -- ---- one entry more
 
 pub pool_notes-push : (H : List PoolEntry) (e : PoolEntry) → pool_notes (H ++ e ∷ []) ≡ pool_notes H ++ e.note ∷ []
 pool_notes-push H e = map-append (λ x. x.note) H (e ∷ [])
-
-own-push : (H : List PoolEntry) (e : PoolEntry) (c : ℕ) → pool_notes_of (H ++ e ∷ []) c ≡ pool_notes (filter (λ x. x.client == c) H ++ cond (e.client == c) (e ∷ []) [])
-own-push H e c = ap pool_notes (filter-append (λ x. x.client == c) H (e ∷ []))
-
-pub pool_notes_of-push : (H : List PoolEntry) (e : PoolEntry) (c : ℕ) → e.client ≡ c → pool_notes_of (H ++ e ∷ []) c ≡ pool_notes_of H c ++ e.note ∷ []
-pool_notes_of-push H e c is =
-    own-push H e c
-    ∙ ap (λ b. pool_notes (filter (λ x. x.client == c) H ++ cond b (e ∷ []) [])) (eq-eqb e.client c is)
-    ∙ pool_notes-push (filter (λ x. x.client == c) H) e
-
-pub pool_notes_of-push_other : (H : List PoolEntry) (e : PoolEntry) (c : ℕ) → e.client ≢ c → pool_notes_of (H ++ e ∷ []) c ≡ pool_notes_of H c
-pool_notes_of-push_other H e c differs =
-    own-push H e c
-    ∙ ap (λ b. pool_notes (filter (λ x. x.client == c) H ++ cond b (e ∷ []) [])) (ne_eqb e.client c differs)
-    ∙ map-append (λ x. x.note) (filter (λ x. x.client == c) H) []
-    ∙ append-nil (pool_notes_of H c)
 
 -- the connections that are out after one entry more
 pub out-push : (H : List PoolEntry) (e : PoolEntry) → out (pool_notes (H ++ e ∷ [])) ≡ out_after (out (pool_notes H)) e.note
@@ -295,7 +279,7 @@ pub given_is_own : (own : List PoolNote) (c : ℕ) → pool_proper own (Want.Giv
 unfolding pool_proper
 given_is_own own c proper = (and_parts (has_room own) (contains (out own) c) proper).1
 
-fits_to_take : (n size : ℕ) (H : List PoolEntry) (e : PoolEntry) → PoolFits n size H e → (c : ℕ) → e.note ≡ PoolNote.Taken c → (contains (out (pool_notes H)) c ≡ false) × (1 ≤ c) × (c ≤ size)
+pub fits_to_take : (n size : ℕ) (H : List PoolEntry) (e : PoolEntry) → PoolFits n size H e → (c : ℕ) → e.note ≡ PoolNote.Taken c → (contains (out (pool_notes H)) c ≡ false) × (1 ≤ c) × (c ≤ size)
 fits_to_take n size H e fits c note =
     let reply : pool_reply size H Want.Take ≡ Some (PoolNote.Taken c) = subst (λ x. pool_reply size H (pool_want x) ≡ Some x) note fits.reply in
     let free = first_free-some size 1 c (out (pool_notes H)) (taken_is_first size c H reply) in

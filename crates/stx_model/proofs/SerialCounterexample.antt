@@ -16,7 +16,7 @@ use Rattle.stx_model.specs.Stores.{live, is_busy, is_caller, least, busy_or, wor
 use Rattle.stx_model.specs.Legal.{StoreLegal}
 use Rattle.stx_model.specs.Serial.{Serial}
 use Rattle.stx_model.proofs.SerialLaw.{journal_serial}
-use Rattle.stx_model.proofs.SerialRows.{by, k}
+use Rattle.stx_model.proofs.WorkedRows.{by, k}
 
 -- ---- the variant: a return frees what was locked since the savepoint
 

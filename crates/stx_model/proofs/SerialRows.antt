@@ -1,5 +1,5 @@
 -- Worked rows of the serial law: a return to a savepoint, rivals that were refused or rolled back, and an own statement.
-use Rattle.std.proofs.Common.{◌≡◌, ℕ, ℤ, zero, suc, pos, List, [], ◌∷◌, Option, Some, None, refl, subst, lit<}
+use Rattle.std.proofs.Common.{◌≡◌, ℤ, zero, suc, pos, List, [], ◌∷◌, Option, Some, None, refl, subst, lit<}
 use Rattle.std.proofs.lemmas.Cmp.{nat_cmp_total}
 use Rattle.std.specs.Ordering.{nat_cmp}
 use Rattle.std.specs.FinMap.{get-insert, get-empty}
@@ -13,25 +13,9 @@ use Rattle.stx_model.specs.Stores.{Transaction, journal, store_reply, store_prop
 use Rattle.stx_model.specs.Legal.{StoreLegal}
 use Rattle.stx_model.specs.Serial.{Serial}
 use Rattle.stx_model.proofs.SerialLaw.{journal_serial}
-
-abbrev pub by : ℕ → StoreNote → StoreEntry
-by c n = record { client = c; note = n }
-
-abbrev pub k : RowNo
-k = record { 0 = 0 }
+use Rattle.stx_model.proofs.WorkedRows.{by, k, kept_locks}
 
 -- ---- a row is written after a savepoint, and the write is undone; a rival is refused, and rolled back
-
-abbrev undone_write : List StoreEntry
-undone_write = by 0 (StoreNote.Begin 1) ∷ by 0 (StoreNote.Point 1)
-    ∷ by 0 (StoreNote.Access 1 (Access.Write k (pos 5)) Answer.Done)
-    ∷ by 0 (StoreNote.BackTo 1) ∷ by 0 (StoreNote.Release 1)
-    ∷ by 1 (StoreNote.Begin 2)
-    ∷ by 1 (StoreNote.Access 2 (Access.Write k (pos 9)) (Answer.Busy 1))
-    ∷ by 0 (StoreNote.Access 1 (Access.Read k) Answer.Absent)
-    ∷ by 0 (StoreNote.Commit 1 1)
-    ∷ by 1 (StoreNote.Rollback 2)
-    ∷ []
 
 abbrev undoer : Transaction
 undoer = record {
@@ -41,20 +25,20 @@ undoer = record {
       ∷ StoreNote.Access 1 (Access.Read k) Answer.Absent ∷ [];
 }
 
-undone_write_journal : journal undone_write ≡ undoer ∷ []
-undone_write_journal = refl
+kept_locks_journal : journal kept_locks ≡ undoer ∷ []
+kept_locks_journal = refl
 
 -- run alone over no rows, it finds the row absent again after its return
 undoer_alone : found_alone (first_rows []) undoer.work ≡ Answer.Done ∷ Answer.Absent ∷ []
 undoer_alone = simp (get-empty {X = ℤ} nat_cmp)
 
 -- serial as it computes
-pub undone_write_serial : Serial [] undone_write
-undone_write_serial zero j at = subst (λ (x : Transaction). found_alone (first_rows []) x.work ≡ answers x.work) (the_one undoer at) undoer_alone
+pub kept_locks_serial : Serial [] kept_locks
+kept_locks_serial zero j at = subst (λ (x : Transaction). found_alone (first_rows []) x.work ≡ answers x.work) (the_one undoer at) undoer_alone
   where
     the_one : (x : Transaction) → Some x ≡ Some j → x ≡ j
     the_one x e = cc
-undone_write_serial (suc n) j at = absurd (nothing at)
+kept_locks_serial (suc n) j at = absurd (nothing at)
   where
     nothing : ◌≡◌ {A = Option Transaction} None (Some j) → ⊥
     nothing e = cc

@@ -56,6 +56,14 @@ connection_bracket (Line.Give c) = Closes c
 connection_bracket (Line.Top k) = AllClosed
 connection_bracket _ = Neither
 
+-- a transaction begins, and commits or rolls back; a top-level call begins with none open
+abbrev pub transaction_bracket : Line → Bracket
+transaction_bracket (Line.Begin t) = Opens t
+transaction_bracket (Line.Commit t n) = Closes t
+transaction_bracket (Line.Rollback t) = Closes t
+transaction_bracket (Line.Top k) = AllClosed
+transaction_bracket _ = Neither
+
 -- ---- the whole
 
 -- everything is given back: no connection is out, no transaction lives, and in each top-level call of each client

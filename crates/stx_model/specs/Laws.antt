@@ -1,9 +1,63 @@
 -- The laws that public functions carry.
-use Rattle.std.specs.Prelude.{ℕ, ℤ, List}
+use Rattle.std.specs.Prelude.{◌≡◌, ℕ, ℤ, ◌+◌, ◌*◌, ◌<◌, ◌≤◌, List, [], map, length}
+use Rattle.stx_scenario.specs.declared.scenario.Scenario.{Scenario}
+use Rattle.stx_model.specs.declared.call.Want.{Want}
+use Rattle.stx_model.specs.declared.history.PoolNote.{PoolNote}
+use Rattle.stx_model.specs.declared.history.PoolEntry.{PoolEntry}
+use Rattle.stx_model.specs.declared.history.StoreNote.{StoreNote}
 use Rattle.stx_model.specs.declared.history.StoreEntry.{StoreEntry}
-use Rattle.stx_model.specs.Legal.{StoreLegal}
+use Rattle.stx_model.specs.Faithful.{IsBalanced, connection_bracket, transaction_bracket}
+use Rattle.stx_model.specs.Flat.{flat_weight}
+use Rattle.stx_model.specs.Histories.{pool_notes_of, store_notes_of, total}
+use Rattle.stx_model.specs.Legal.{PoolLegal, StoreLegal}
+use Rattle.stx_model.specs.Meanings.{State, Stops, state_of}
+use Rattle.stx_model.specs.Pools.{out}
+use Rattle.stx_model.specs.Reads.{IsEndOf, ReadsAll, notes_read, TakesFresh, BeginsFresh, IsProperAfter}
+use Rattle.stx_model.specs.Script.{script}
 use Rattle.stx_model.specs.Serial.{Serial}
+use Rattle.stx_model.specs.Stores.{live}
 
 -- a legal history of the store is serial
 abbrev pub JournalIsSerial : Type 0
 JournalIsSerial = (clients : ℕ) (values : List ℤ) (history : List StoreEntry) → StoreLegal clients values history → Serial values history
+
+-- over any notes, the scripts of all clients together read at most eight notes for each unit of weight
+abbrev pub ReadsWithin : Type 0
+ReadsWithin = (S : Scenario) (pool : ℕ → List PoolNote) (store : ℕ → List StoreNote)
+    → total (length S.clients) (λ c. notes_read S c (pool c) (store c)) ≤ 8 * flat_weight S
+
+-- legal histories whose notes the clients' scripts have all read have at most eight entries for each unit of weight
+abbrev pub EntriesWithin : Type 0
+EntriesWithin = (S : Scenario) (pool : List PoolEntry) (store : List StoreEntry)
+    → PoolLegal (length S.clients) S.settings.pool pool → StoreLegal (length S.clients) S.values store
+    → ((c : ℕ) → c < length S.clients → ReadsAll S c (pool_notes_of pool c) (store_notes_of store c))
+    → length pool + length store ≤ 8 * flat_weight S
+
+-- what a script leaves unread is the end of the notes it was given, whatever its own end
+abbrev pub ReadsInOrder : Type 0
+ReadsInOrder = (S : Scenario) (c : ℕ) (pool : List PoolNote) (store : List StoreNote)
+    → IsEndOf (state_of (script S c pool store)).pool pool × IsEndOf (state_of (script S c pool store)).store store
+
+-- a client's own notes in legal histories take no connection that it has out, and begin no number twice
+abbrev pub OwnNotesFresh : Type 0
+OwnNotesFresh = (clients client : ℕ)
+    → ((size : ℕ) (history : List PoolEntry) → PoolLegal clients size history → TakesFresh (pool_notes_of history client))
+    × ((values : List ℤ) (history : List StoreEntry) → StoreLegal clients values history → BeginsFresh (store_notes_of history client))
+
+-- in a scenario that isn't too heavy, where a script wants a call and leaves no note unread, the call is proper after them
+abbrev pub WantsProper : Type 0
+WantsProper = (S : Scenario) → flat_weight S ≤ 200000
+    → (c : ℕ) (pool : List PoolNote) (store : List StoreNote) (want : Want) (end : State)
+    → script S c pool store ≡ Stops want end → end.pool ≡ [] → end.store ≡ [] → IsProperAfter pool store want
+
+-- in the lines of a script that is done, takes and gives are brackets, and so are the begins and the ends of
+-- transactions; all are closed where a top-level call begins
+abbrev pub Balanced : Type 0
+Balanced = (S : Scenario) (c : ℕ) (pool : List PoolNote) (store : List StoreNote) (end : State)
+    → script S c pool store ≡ Stops Want.Done end → IsBalanced (map connection_bracket end.lines) × IsBalanced (map transaction_bracket end.lines)
+
+-- a script that is done and leaves no note unread has given back what it took and ended what it began
+abbrev pub GivesAllBack : Type 0
+GivesAllBack = (S : Scenario) (c : ℕ) (pool : List PoolNote) (store : List StoreNote) (end : State)
+    → script S c pool store ≡ Stops Want.Done end → end.pool ≡ [] → end.store ≡ []
+    → (TakesFresh pool → out pool ≡ []) × (BeginsFresh store → live store ≡ [])

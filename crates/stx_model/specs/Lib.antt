@@ -4,11 +4,15 @@ pub mod Alone
 pub mod Stores
 pub mod Legal
 pub mod Serial
-pub mod Laws
 pub mod Attributes
+pub mod Classes
+pub mod Weight
 pub mod Contexts
 pub mod Meanings
 pub mod Script
+pub mod Flat
 pub mod Faithful
+pub mod Reads
+pub mod Laws
 pub mod Lines
 pub mod Report

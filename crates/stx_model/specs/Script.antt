@@ -1,15 +1,18 @@
 -- The script: what a client's calls denote, given what its own shared calls were answered.
--- Built so far: calls of methods with an attribute of propagation required, and the statements read and write. A
--- client's call meets the bare context, so each opens a fresh scope; nothing registers, so no round has a line; and
--- where a row is busy the script breaks. Every other form breaks too.
+-- Built so far: calls of methods whose attribute has propagation required and no rules, and in their bodies the
+-- statements on rows and `throw`. A client's call meets the bare context, so each opens a fresh scope that suspends
+-- nothing; nothing registers, so no round has a line; and nothing marks. Every other form breaks.
 -- (Spring: TransactionAspectSupport.invokeWithinTransaction, AbstractPlatformTransactionManager.)
-use Rattle.std.specs.Prelude.{ℕ, ◌+◌, Bool, true, false, List, [], ◌∷◌, Option, Some, None, slice_get, unwrap_or}
-use Rattle.std.specs.Option.{option_map}
+use Rattle.std.specs.Prelude.{ℕ, ◌+◌, ◌-◌, ◌^◌, Bool, true, false, ◌&&◌, ℤ, pos, negsuc, ◌+ℤ◌, int_lt, int_le, List, [], ◌∷◌, Option, Some, None, slice_get, unwrap_or}
+use Rattle.stx_scenario.specs.declared.numbers.ClassNo.{ClassNo}
 use Rattle.stx_scenario.specs.declared.numbers.MethodNo.{MethodNo}
+use Rattle.stx_scenario.specs.declared.numbers.RowNo.{RowNo}
+use Rattle.stx_scenario.specs.declared.classes.TheConstants.{ILLEGAL_STATE_EXCEPTION, ARITHMETIC_EXCEPTION, CANNOT_CREATE_TRANSACTION_EXCEPTION, CANNOT_ACQUIRE_LOCK_EXCEPTION}
 use Rattle.stx_scenario.specs.declared.scenario.Scenario.{Scenario}
 use Rattle.stx_scenario.specs.declared.scenario.Stmt.{Stmt}
 use Rattle.stx_scenario.specs.declared.scenario.SyncMode.{SyncMode}
 use Rattle.stx_scenario.specs.declared.scenario.Propagation.{Propagation}
+use Rattle.stx_scenario.specs.declared.scenario.Rule.{Rule}
 use Rattle.stx_scenario.specs.declared.scenario.TxAttr.{TxAttr}
 use Rattle.stx_model.specs.declared.call.Want.{Want}
 use Rattle.stx_model.specs.declared.history.Access.{Access}
@@ -20,30 +23,106 @@ use Rattle.stx_model.specs.declared.line.Line.{Line}
 use Rattle.stx_model.specs.declared.manager.Kind.{Kind}
 use Rattle.stx_model.specs.declared.manager.Ending.{Ending}
 use Rattle.stx_model.specs.Attributes.{attribute}
+use Rattle.stx_model.specs.Classes.{rolls_back_by_default}
+use Rattle.stx_model.specs.Weight.{body_of}
 use Rattle.stx_model.specs.Contexts.{Context, Live, Registration, bare}
-use Rattle.stx_model.specs.Meanings.{at_first, Result, Over, Stops, Breaks, Meaning, and_then, finally, say, with_context, ask, on_take, on_begin, on_access}
+use Rattle.stx_model.specs.Meanings.{State, at_first, Result, Over, Stops, Breaks, Meaning, and_then, finally, say, with_context, ask, on_take, on_begin, on_access}
 
--- ---- statements
+-- ---- throwing
 
--- a row that was there to be had
-abbrev pub row_answered : Answer → Meaning
-row_answered (Answer.Busy t) st = Breaks st
-row_answered _ st = Over None st
+-- an exception arises
+abbrev pub throws : ClassNo → Meaning
+throws x st = Over (Some x) (say (Line.Throw x) st)
 
--- one access of the live transaction
-abbrev pub access_row : Access → Option Live → Meaning
-access_row a (Some live) st = ask (Want.Access live.transaction a) (on_access row_answered) st
-access_row a None st = Breaks st
+-- ---- statements on rows, inside a transaction
+
+-- a busy row is refused at once (CannotAcquireLockException)
+abbrev pub unless_busy : (Answer → Meaning) → Answer → Meaning
+unless_busy next (Answer.Busy t) st = throws CANNOT_ACQUIRE_LOCK_EXCEPTION st
+unless_busy next answer st = next answer st
+
+-- one access of the live transaction, and then what the statement does with its answer
+abbrev pub access_row : ℕ → Access → (Answer → Meaning) → Meaning
+access_row t a next st = ask (Want.Access t a) (on_access (unless_busy next)) st
+
+-- a read, a write and an erase do nothing more
+abbrev pub nothing_more : Answer → Meaning
+nothing_more answer st = Over None st
+
+-- the value that a read found; an absent row counts as 0
+abbrev pub value_of : Answer → ℤ
+value_of (Answer.Found v) = v
+value_of _ = pos 0
+
+-- a value is a signed number of 64 bits
+abbrev pub is_value : ℤ → Bool
+is_value v = int_le (negsuc (2 ^ 63 - 1)) v && int_lt v (pos (2 ^ 63))
+
+-- a need throws where the value found is less
+abbrev pub needed : ℤ → Answer → Meaning
+needed n answer st = elim (int_lt (value_of answer) n) [ true ↦ throws ILLEGAL_STATE_EXCEPTION st | false ↦ Over None st ]
+
+-- an add writes the sum, and throws without the write where the sum is no value
+abbrev pub added : ℕ → RowNo → ℤ → Answer → Meaning
+added t k n answer st =
+    elim (is_value (value_of answer +ℤ n)) [
+      | true ↦ access_row t (Access.Write k (value_of answer +ℤ n)) nothing_more st
+      | false ↦ throws ARITHMETIC_EXCEPTION st
+    ]
+
+-- a statement of a body, in a live transaction
+abbrev pub statement_in : ℕ → Stmt → Meaning
+statement_in t (Stmt.Read k) st = access_row t (Access.Read k) nothing_more st
+statement_in t (Stmt.Write k v) st = access_row t (Access.Write k v) nothing_more st
+statement_in t (Stmt.Erase k) st = access_row t (Access.Erase k) nothing_more st
+statement_in t (Stmt.Need k n) st = access_row t (Access.Read k) (needed n) st
+statement_in t (Stmt.Add k n) st = access_row t (Access.Read k) (added t k n) st
+statement_in t (Stmt.Throw x) st = throws x st
+statement_in t _ st = Breaks st
+
+abbrev pub statement_with : Option Live → Stmt → Meaning
+statement_with (Some live) s st = statement_in live.transaction s st
+statement_with None s st = Breaks st
 
 unfoldable pub statement : Stmt → Meaning
-statement (Stmt.Read k) st = access_row (Access.Read k) st.context.tx st
-statement (Stmt.Write k v) st = access_row (Access.Write k v) st.context.tx st
-statement _ st = Breaks st
+statement s st = statement_with st.context.tx s st
 
 -- the statements in order, up to the first that throws
 unfoldable pub body : List Stmt → Meaning
 body [] st = Over None st
 body (s ∷ statements) st = and_then (statement s st) (body statements)
+
+-- ---- the end of a fresh scope
+
+-- how a call ends: normally, or with what was thrown
+abbrev pub leaves : MethodNo → Option ClassNo → Meaning
+leaves m x st = Over x (say (Line.Leave m x) st)
+
+-- the connection goes back to the pool, and the context is the older one again (cleanupAfterCompletion)
+unfoldable pub gives_back : MethodNo → ℕ → Option ClassNo → Meaning
+gives_back m c x st = ask (Want.Give c) (λ _ given. leaves m x (with_context bare given)) st
+
+-- the store commits or rolls back (processCommit, processRollback)
+abbrev pub ending_call : ℕ → Ending → Want
+ending_call t Ending.Commit = Want.Commit t
+ending_call t _ = Want.Rollback t
+
+unfoldable pub completes : MethodNo → ℕ → ℕ → Ending → Option ClassNo → Meaning
+completes m c t e x st = ask (ending_call t e) (λ _. gives_back m c x) st
+
+-- a scope rolls back where its body threw and the rules say so, else it commits
+abbrev pub ending_after : Scenario → Option ClassNo → Ending
+ending_after S None = Ending.Commit
+ending_after S (Some x) = elim (rolls_back_by_default S.classes x.0) [ true ↦ Ending.Rollback | false ↦ Ending.Commit ]
+
+-- where the body threw, what the rules decide: without rules, by default
+abbrev pub ruled : Scenario → Option ClassNo → State → State
+ruled S None st = st
+ruled S (Some x) st = say (Line.Rules (rolls_back_by_default S.classes x.0) None) st
+
+-- the end of the scope, after its body
+abbrev pub ends : Scenario → MethodNo → ℕ → ℕ → Option ClassNo → Meaning
+ends S m c t x st = completes m c t (ending_after S x) x (say (Line.End (ending_after S x)) (ruled S x st))
 
 -- ---- a fresh scope
 
@@ -64,39 +143,31 @@ fresh_context connection transaction read_only owns =
       syncs = started_syncs owns;
     }
 
--- the statements of a method
-abbrev pub body_of : Scenario → MethodNo → List Stmt
-body_of S m = unwrap_or (option_map (λ method. method.body) (slice_get S.methods m.0)) []
-
--- the scope ends with a commit: the store's, then the give; after it the context is the older one again
--- (AbstractPlatformTransactionManager.processCommit, cleanupAfterCompletion)
-unfoldable pub commits : ℕ → ℕ → MethodNo → Meaning
-commits c t m st =
-    ask (Want.Commit t) (λ _. ask (Want.Give c) (λ _ given.
-    Over None (say (Line.Leave m None) (with_context bare given)))) (say (Line.End Ending.Commit) st)
-
 unfoldable pub opened : Scenario → MethodNo → TxAttr → ℕ → ℕ → Meaning
 opened S m a c t st =
     let owns = owns_fresh S.settings.mode in
-    and_then (body (body_of S m) (say (Line.Opened Kind.Fresh owns) (with_context (fresh_context c t a.read_only owns) st)))
-    (commits c t m)
+    finally (body (body_of S m) (say (Line.Opened Kind.Fresh owns) (with_context (fresh_context c t a.read_only owns) st)))
+    (ends S m c t)
 
-abbrev pub begins : Scenario → MethodNo → TxAttr → Option ℕ → Meaning
+-- begins a transaction on the connection (DataSourceTransactionManager.doBegin); where the pool was empty the call is
+-- refused (CannotCreateTransactionException)
+unfoldable pub begins : Scenario → MethodNo → TxAttr → Option ℕ → Meaning
 begins S m a (Some c) st = ask Want.Begin (on_begin (λ t. opened S m a c t)) st
-begins S m a None st = Breaks st
+begins S m a None st =
+    leaves m (Some CANNOT_CREATE_TRANSACTION_EXCEPTION) (say (Line.Throw CANNOT_CREATE_TRANSACTION_EXCEPTION) st)
 
--- takes a connection and begins a transaction (DataSourceTransactionManager.doBegin)
+-- takes a connection
 unfoldable pub fresh : Scenario → MethodNo → TxAttr → Meaning
 fresh S m a st = ask Want.Take (on_take (begins S m a)) st
 
 -- ---- calls
 
-abbrev pub opening_of : Scenario → MethodNo → TxAttr → Propagation → Meaning
-opening_of S m a Propagation.Required st = fresh S m a st
-opening_of S m a _ st = Breaks st
+abbrev pub opening_of : Scenario → MethodNo → TxAttr → Propagation → List Rule → Meaning
+opening_of S m a Propagation.Required [] st = fresh S m a st
+opening_of S m a _ _ st = Breaks st
 
 abbrev pub intercepted : Scenario → MethodNo → Option TxAttr → Meaning
-intercepted S m (Some a) st = opening_of S m a a.propagation (say (Line.Call m a.propagation a.read_only) st)
+intercepted S m (Some a) st = opening_of S m a a.propagation a.rules (say (Line.Call m a.propagation a.read_only) st)
 intercepted S m None st = Breaks st
 
 unfoldable pub invoke : Scenario → MethodNo → Meaning

@@ -3,6 +3,7 @@
 #![tactic(auto)]
 
 mod call;
+mod cost;
 mod history;
 mod laws;
 mod line;
@@ -11,8 +12,12 @@ mod outcome;
 mod token;
 
 pub use call::{Call, PoolAnswer, PoolCall, Reply, StoreAnswer, StoreCall, Want};
+pub use cost::Cost;
 pub use history::{Access, Answer, PoolEntry, PoolNote, StoreEntry, StoreNote};
-pub use laws::journal_is_serial;
+pub use laws::{
+    balanced, entries_within, gives_all_back, journal_is_serial, own_notes_fresh, reads_in_order,
+    reads_within, wants_proper,
+};
 pub use line::{Label, Line};
 pub use manager::{Ending, Kind, Opening, Round};
 pub use outcome::{ClientLines, Outcome, Report, ToolEnd};

@@ -1,4 +1,4 @@
-// The tokens carry their numbers.
+// The tokens carry their numbers, and the law can be called for.
 use super::*;
 
 #[test]
@@ -10,4 +10,9 @@ fn tokens_carry_their_numbers(rt: HostRuntime) {
     session.retire();
     assert_eq!(rt; numbers.0, 3);
     assert_eq!(rt; numbers.1, 4);
+}
+
+#[test]
+fn the_serial_law_is_there() {
+    journal_is_serial();
 }

@@ -25,6 +25,7 @@ impl Connection {
         Connection { number }
     }
 
+    /// The connection's number.
     pub fn number(&self) -> u32
         ensures { result ≡ self.now }
     {
@@ -41,7 +42,7 @@ impl Connection {
 /// spends it.
 #[must_use]
 pub struct Session {
-    number: u32,
+    tx: u32,
 }
 
 impl Model for Session {
@@ -49,7 +50,7 @@ impl Model for Session {
 
     ghost Value = { ℕ };
 
-    ghost view = { λ s. s.number };
+    ghost view = { λ s. s.tx };
 }
 
 impl Session {
@@ -57,17 +58,18 @@ impl Session {
     pub fn issue(number: u32) -> Self
         ensures { result ≡ number }
     {
-        Session { number }
+        Session { tx: number }
     }
 
+    /// The transaction's number.
     pub fn number(&self) -> u32
         ensures { result ≡ self.now }
     {
-        self.number
+        self.tx
     }
 
     /// Spends the session of a client that is given up.
     pub fn retire(self) {
-        let Session { number: _ } = self;
+        let Session { tx: _ } = self;
     }
 }

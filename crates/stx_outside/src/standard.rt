@@ -90,7 +90,8 @@ impl<W: Write> Sink for StdSink<W> {
     }
 }
 
-// How many bytes the writer took, or `None` where it failed or took none of some.
+// How many bytes the writer took, or `None` where it failed or took none of some. To take none of an empty slice is no
+// fault: a sink owes progress for a slice that isn't empty alone.
 fn write_and_flush<W: Write>(output: &mut W, from: &[u8]) -> Option<usize>
     ensures bound { IfSome result (λ count. count ≤ length from.now) }
     ensures some { IfSome result (λ count. 0 < length from.now → 0 < count) }

@@ -12,38 +12,55 @@ struct BuiltIn {
     parent: Option<ClassNo>,
 }
 
+/// The root: everything that can be thrown.
 pub const THROWABLE: ClassNo = ClassNo(0);
 
+/// What a caller may expect; by default it rolls nothing back.
 pub const EXCEPTION: ClassNo = ClassNo(1);
 
+/// What no caller expects; by default it rolls back.
 pub const ERROR: ClassNo = ClassNo(2);
 
+/// An exception that no signature names; by default it rolls back.
 pub const RUNTIME_EXCEPTION: ClassNo = ClassNo(3);
 
+/// A `need` that found less, or a registration where synchronisation is not active.
 pub const ILLEGAL_STATE_EXCEPTION: ClassNo = ClassNo(4);
 
+/// An `add` whose sum is no value.
 pub const ARITHMETIC_EXCEPTION: ClassNo = ClassNo(5);
 
+/// Spring's root of what it throws itself.
 pub const NESTED_RUNTIME_EXCEPTION: ClassNo = ClassNo(6);
 
+/// The root of the transaction manager's own exceptions.
 pub const TRANSACTION_EXCEPTION: ClassNo = ClassNo(7);
 
+/// No connection was in for a transaction, or a savepoint was wanted in one that is marked for rollback.
 pub const CANNOT_CREATE_TRANSACTION_EXCEPTION: ClassNo = ClassNo(8);
 
+/// A nested scope where savepoints are not allowed.
 pub const NESTED_TRANSACTION_NOT_SUPPORTED_EXCEPTION: ClassNo = ClassNo(9);
 
+/// The root of wrong uses of the transaction manager.
 pub const TRANSACTION_USAGE_EXCEPTION: ClassNo = ClassNo(10);
 
+/// A call whose propagation forbids what it met: a transaction, or none.
 pub const ILLEGAL_TRANSACTION_STATE_EXCEPTION: ClassNo = ClassNo(11);
 
+/// A use of the current transaction where there is none.
 pub const NO_TRANSACTION_EXCEPTION: ClassNo = ClassNo(12);
 
+/// A commit was asked for, and the transaction had been marked for rollback.
 pub const UNEXPECTED_ROLLBACK_EXCEPTION: ClassNo = ClassNo(13);
 
+/// The root of what access to data throws.
 pub const DATA_ACCESS_EXCEPTION: ClassNo = ClassNo(14);
 
+/// A row that another transaction has locked.
 pub const CANNOT_ACQUIRE_LOCK_EXCEPTION: ClassNo = ClassNo(15);
 
+/// A statement outside a transaction found no connection in.
 pub const CANNOT_GET_JDBC_CONNECTION_EXCEPTION: ClassNo = ClassNo(16);
 
 /// The built-in classes in the order of their numbers.

@@ -6,6 +6,7 @@ mod list;
 mod memory;
 mod name;
 mod numbers;
+mod roomy;
 mod scenario;
 
 pub use classes::{
@@ -20,6 +21,7 @@ pub use list::List;
 pub use memory::NoMemory;
 pub use name::Name;
 pub use numbers::{BeanNo, ClassNo, EventNo, ListenerNo, MethodNo, RowNo, SyncNo};
+pub use roomy::Roomy;
 pub use scenario::{
     Bean, Calls, ClassDecl, Listener, Method, Phase, Propagation, Rule, RuleBy, Scenario, Settings,
     Stmt, SyncDecl, SyncMode, TxAttr,

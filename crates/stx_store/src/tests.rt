@@ -59,23 +59,25 @@ fn a_return_to_a_savepoint_keeps_its_locks(rt: HostRuntime) -> Result<(), Fail> 
     assert_eq!(rt; found, Answer::Absent);
     assert_eq!(rt; number, 1);
     let entries = store.into_entries();
-    assert_eq!(rt;
-        entries.as_slice(),
-        [
-            entry(0, StoreNote::Begin(1)),
-            entry(0, StoreNote::Point(1)),
-            entry(0, access(1, Access::Write(STOCK, 5), Answer::Done)),
-            entry(0, StoreNote::BackTo(1)),
-            entry(0, StoreNote::Release(1)),
-            entry(1, StoreNote::Begin(2)),
-            entry(1, access(2, Access::Write(STOCK, 9), Answer::Busy(1))),
-            entry(0, access(1, Access::Read(STOCK), Answer::Absent)),
-            entry(0, StoreNote::Commit { tx: 1, number: 1 }),
-            entry(1, StoreNote::Rollback(2)),
-        ]
-        .as_slice()
-    );
+    let kept = kept_locks();
+    assert_eq!(rt; entries.as_slice(), kept.as_slice());
     Ok(())
+}
+
+/// The entries of client 0, which goes back over its write, and of client 1, which is busy at the row all the same.
+fn kept_locks() -> [StoreEntry; 10] {
+    [
+        entry(0, StoreNote::Begin(1)),
+        entry(0, StoreNote::Point(1)),
+        entry(0, access(1, Access::Write(STOCK, 5), Answer::Done)),
+        entry(0, StoreNote::BackTo(1)),
+        entry(0, StoreNote::Release(1)),
+        entry(1, StoreNote::Begin(2)),
+        entry(1, access(2, Access::Write(STOCK, 9), Answer::Busy(1))),
+        entry(0, access(1, Access::Read(STOCK), Answer::Absent)),
+        entry(0, StoreNote::Commit { tx: 1, number: 1 }),
+        entry(1, StoreNote::Rollback(2)),
+    ]
 }
 
 #[test]
@@ -185,6 +187,65 @@ fn a_read_locks_a_row_that_is_absent(rt: HostRuntime) -> Result<(), Fail> {
     assert_eq!(rt; refused, Answer::Busy(1));
     assert_eq!(rt; free, Answer::Done);
     assert_eq!(rt; written, Answer::Done);
+    Ok(())
+}
+
+#[test]
+#[tactic(auto, unfolding(stx_model::specs::Stores::store_proper, stx_model::specs::Stores::store_reply))]
+fn an_erased_row_is_absent(rt: HostRuntime) -> Result<(), Fail> {
+    let alloc = rt.alloc();
+    let values = List::from_vec(vec![in alloc; 7]?);
+    let mut store = StoreCore::new(alloc, &values)?;
+    let session = store.begin(alloc, 0)?;
+    let tx = session.number();
+    store.point(alloc, 0, tx).expect(&rt, "memory");
+    let erased = store
+        .access(alloc, 0, tx, Access::Erase(STOCK))
+        .expect(&rt, "memory");
+    let absent = store
+        .access(alloc, 0, tx, Access::Read(STOCK))
+        .expect(&rt, "memory");
+    store.back_to(0, tx);
+    let found = store
+        .access(alloc, 0, tx, Access::Read(STOCK))
+        .expect(&rt, "memory");
+    store.release(0, tx);
+    let _ = store
+        .access(alloc, 0, tx, Access::Erase(STOCK))
+        .expect(&rt, "memory");
+    let _ = store.commit(0, session);
+    assert_eq!(rt; erased, Answer::Done);
+    assert_eq!(rt; absent, Answer::Absent);
+    assert_eq!(rt; found, Answer::Found(7));
+    assert_eq!(rt; row_after(&values, store.entries(), STOCK), None);
+    Ok(())
+}
+
+#[test]
+#[tactic(auto, unfolding(stx_model::specs::Stores::store_proper, stx_model::specs::Stores::store_reply))]
+fn commits_and_own_statements_are_numbered_in_one_row(rt: HostRuntime) -> Result<(), Fail> {
+    let alloc = rt.alloc();
+    let values = List::new(alloc);
+    let mut store = StoreCore::new(alloc, &values)?;
+    let first = store.begin(alloc, 0)?;
+    let _ = store
+        .access(alloc, 0, first.number(), Access::Write(STOCK, 1))
+        .expect(&rt, "memory");
+    let first_number = store.commit(0, first);
+    let second = store.begin(alloc, 1)?;
+    let _ = store
+        .access(alloc, 1, second.number(), Access::Write(STOCK, 2))
+        .expect(&rt, "memory");
+    let second_number = store.commit(1, second);
+    let erased = store.auto(alloc, 0, Access::Erase(STOCK))?;
+    let third = store.begin(alloc, 0)?;
+    let found = store
+        .access(alloc, 0, third.number(), Access::Read(STOCK))
+        .expect(&rt, "memory");
+    let third_number = store.commit(0, third);
+    assert_eq!(rt; [first_number, second_number, third_number], [1, 2, 4]);
+    assert_eq!(rt; erased, Answer::Done);
+    assert_eq!(rt; found, Answer::Absent);
     Ok(())
 }
 

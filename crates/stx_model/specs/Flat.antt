@@ -1,0 +1,60 @@
+-- The scenarios that are played so far: methods that call no other, each with the default attribute, whose bodies
+-- read, write, erase, add, need and throw.
+use Rattle.std.specs.Prelude.{◌≡◌, ℕ, ◌+◌, ◌≤◌, Bool, true, false, nat_lt, List, [], length, Some, slice_get}
+use Rattle.std.specs.List.{list_all, sum_by}
+use Rattle.stx_scenario.specs.declared.numbers.MethodNo.{MethodNo}
+use Rattle.stx_scenario.specs.declared.scenario.Scenario.{Scenario}
+use Rattle.stx_scenario.specs.declared.scenario.Method.{Method}
+use Rattle.stx_scenario.specs.declared.scenario.Stmt.{Stmt}
+use Rattle.stx_scenario.specs.declared.scenario.Propagation.{Propagation}
+use Rattle.stx_scenario.specs.declared.scenario.TxAttr.{TxAttr}
+use Rattle.stx_scenario.specs.BuiltIn.{built_in}
+use Rattle.stx_model.specs.Weight.{body_of}
+
+-- ---- methods
+
+-- propagation required, not read-only, and no rules
+abbrev pub default_attribute : TxAttr
+default_attribute = record { propagation = Propagation.Required; read_only = false; rules = [] }
+
+-- a statement on a row, or a throw of a class that there is
+abbrev pub is_flat : Stmt → Bool
+is_flat (Stmt.Read k) = true
+is_flat (Stmt.Write k v) = true
+is_flat (Stmt.Erase k) = true
+is_flat (Stmt.Add k v) = true
+is_flat (Stmt.Need k v) = true
+is_flat (Stmt.Throw x) = nat_lt x.0 (length built_in)
+is_flat _ = false
+
+pub record IsFlatMethod (method : Method) : Type 0 where
+  pub tx : method.tx ≡ Some default_attribute
+  pub few : length method.body ≤ 256
+  pub body : list_all is_flat method.body ≡ true
+
+-- ---- weight, while methods call no other: 1 for each call and 1 for each statement of its method
+
+abbrev pub call_weight : Scenario → MethodNo → ℕ
+call_weight S m = 1 + length (body_of S m)
+
+abbrev pub calls_weight : Scenario → List MethodNo → ℕ
+calls_weight S calls = sum_by (call_weight S) calls
+
+abbrev pub flat_weight : Scenario → ℕ
+flat_weight S = sum_by (calls_weight S) S.clients
+
+-- ---- scenarios
+
+-- a client calls methods that there are, at most 64 of them
+pub record AreFlatCalls (S : Scenario) (calls : List MethodNo) : Type 0 where
+  pub few : length calls ≤ 64
+  pub there : list_all (λ m. nat_lt m.0 (length S.methods)) calls ≡ true
+
+pub record IsFlat (S : Scenario) : Type 0 where
+  pub classes : S.classes ≡ built_in
+  pub methods : (m : ℕ) (method : Method) → slice_get S.methods m ≡ Some method → IsFlatMethod method
+  pub clients : (c : ℕ) (calls : List MethodNo) → slice_get S.clients c ≡ Some calls → AreFlatCalls S calls
+  pub few_clients : length S.clients ≤ 64
+  pub light : flat_weight S ≤ 200000
+  pub some : 1 ≤ S.settings.pool
+  pub most : S.settings.pool ≤ 64
