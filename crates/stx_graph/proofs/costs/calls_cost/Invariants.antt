@@ -1,0 +1,7 @@
+use Rattle.std.proofs.Common.{◌≡◌, fold, take}
+use Rattle.stx_model.specs.Weight.{nothing}
+use Rattle.stx_graph.specs.Costs.{added, cost_at}
+use Rattle.stx_graph.proofs.costs.calls_cost.Given as goal
+
+abbrev pub invariant-loop-method : goal.invariant-loop-method
+invariant-loop-method l = l.sum ≡ fold (λ sum m. added sum (cost_at l.methods m)) nothing (take l.method-index l.calls)

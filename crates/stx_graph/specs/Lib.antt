@@ -1,0 +1,5 @@
+pub mod Rows
+pub mod Ranks
+pub mod Cycles
+pub mod Costs
+pub mod Graph

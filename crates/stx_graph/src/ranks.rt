@@ -1,0 +1,66 @@
+// Ranks, by rounds: after each round they count the steps of the longest ways with one step more.
+ghost use Rattle.std.specs.Prelude.{◌≡◌, ◌+◌, ◌<◌, ◌≤◌, ◌^◌, length, map, IfOk, All, MatchOption, ℕ};
+ghost use Rattle.stx_scenario.specs.declared.numbers.MethodNo.{MethodNo};
+ghost use Rattle.stx_model.specs.Weight.{MethodsInRange};
+ghost use Rattle.stx_graph.specs.Rows.{RowsInRange};
+ghost use Rattle.stx_graph.specs.Ranks.{raised, rank_at, AreLongest, IsFirst};
+
+use crate::rows::Rows;
+use std::alloc::Global;
+use stx_scenario::{List, MethodNo, NoMemory};
+
+/// The greatest rank that a method may have.
+pub(crate) const DEEPEST: u32 = 64;
+
+/// How many rounds tell a rank that a method may have from a greater one.
+pub(crate) const ROUNDS: u32 = DEEPEST + 1;
+
+/// The steps of the longest way from each method, up to one more than a method may have.
+pub(crate) fn longest_ways(alloc: Global, rows: &Rows) -> Result<List<u32>, NoMemory>
+    requires { RowsInRange (length rows.now) rows.now }
+    ensures { IfOk result (λ ranks. AreLongest rows.now 65 ranks) }
+{
+    let mut ranks = vec![in alloc; 0; rows.len()]?;
+    for _round in 0..ROUNDS {
+        ranks = next_round(alloc, rows, &ranks)?;
+    }
+    Ok(List::from_vec(ranks))
+}
+
+fn next_round(alloc: Global, rows: &Rows, ranks: &[u32]) -> Result<Vec<u32>, NoMemory>
+    requires range { RowsInRange (length ranks.now) rows.now }
+    requires low { All (λ rank. rank ≤ 64) ranks.now }
+    ensures { IfOk result (λ next. next.items ≡ map (raised ranks.now) rows.now) }
+{
+    let mut next = Vec::new(alloc);
+    for row in rows.as_slice() {
+        next.push(rank_above(row.as_slice(), ranks))?;
+    }
+    Ok(next)
+}
+
+// One more than the greatest rank in a row, and 0 where it is empty.
+fn rank_above(row: &[MethodNo], ranks: &[u32]) -> u32
+    requires range { MethodsInRange (length ranks.now) row.now }
+    requires low { All (λ rank. rank ≤ 64) ranks.now }
+    ensures { result ≡ raised ranks.now row.now }
+{
+    let mut rank = 0;
+    for method in row {
+        rank = rank.max(ranks[method.0 as usize] + 1);
+    }
+    rank
+}
+
+/// The first method whose rank is over the greatest that it may have.
+pub(crate) fn first_too_deep(ranks: &[u32]) -> Option<MethodNo>
+    requires { length ranks.now < 2 ^ 32 }
+    ensures { MatchOption result (All (λ rank. rank ≤ 64) ranks.now) (λ m. IsFirst (λ m. 64 < rank_at ranks.now m) m) }
+{
+    for (number, rank) in ranks.iter().enumerate() {
+        if *rank > DEEPEST {
+            return Some(MethodNo(number as u32));
+        }
+    }
+    None
+}
