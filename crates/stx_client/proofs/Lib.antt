@@ -1,0 +1,7 @@
+pub mod StepLaws
+pub mod TurnLaws
+pub mod SumLaws
+pub mod ClientLaws
+pub mod HoldingLaws
+pub mod ReplyLaws
+pub mod FixtureLaws

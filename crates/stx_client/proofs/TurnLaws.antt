@@ -1,0 +1,151 @@
+-- Turns of a machine: what a note of the pool or of the store makes of what is left of the script.
+use Rattle.std.proofs.Common.{◌≡◌, ℕ, ◌++◌, ◌∷◌, [], Bool, true, false, List, Option, Some, None, refl, sym, ap, ◌∙◌, subst}
+use Rattle.stx_scenario.specs.declared.numbers.ClassNo.{ClassNo}
+use Rattle.stx_scenario.specs.declared.numbers.MethodNo.{MethodNo}
+use Rattle.stx_scenario.specs.declared.classes.TheConstants.{CANNOT_CREATE_TRANSACTION_EXCEPTION}
+use Rattle.stx_scenario.specs.declared.scenario.Scenario.{Scenario}
+use Rattle.stx_scenario.specs.declared.scenario.TxAttr.{TxAttr}
+use Rattle.stx_model.specs.declared.call.Want.{Want}
+use Rattle.stx_model.specs.declared.history.Access.{Access}
+use Rattle.stx_model.specs.declared.history.Answer.{Answer}
+use Rattle.stx_model.specs.declared.history.PoolNote.{PoolNote}
+use Rattle.stx_model.specs.declared.history.StoreNote.{StoreNote}
+use Rattle.stx_model.specs.declared.line.Line.{Line}
+use Rattle.stx_model.specs.declared.manager.Ending.{Ending}
+use Rattle.stx_model.specs.Contexts.{Context, bare}
+use Rattle.stx_model.specs.Meanings.{State, Result, Breaks, Meaning, Note, FromPool, FromStore, say, unread, hear, heard, answered, is_answer, pool_answers, store_answers, store_line, on_access, ask}
+use Rattle.stx_model.specs.Script.{unless_busy, access_row, leaves, gives_back, ending_call, completes, opened, begins, fresh}
+use Rattle.stx_model.specs.Flat.{default_attribute}
+use Rattle.stx_client.specs.declared.stage.Scope.{Scope}
+use Rattle.stx_client.specs.declared.stage.Then.{Then}
+use Rattle.stx_client.specs.declared.stage.Stage.{Stage}
+use Rattle.stx_client.specs.declared.stage.At.{At}
+use Rattle.stx_client.specs.Machine.{state, scope_context, context_of, want_of, does, means, hears, rest_of_body, later_calls, run, IsIn, Comes, Runs, Opens, HearsPool, HearsStore}
+
+-- ---- asking
+
+heard_answer : (w : Want) (next : Note → Meaning) (st : State) (n : Note) → is_answer w n ≡ true → heard w next st n ≡ next n (hear n st)
+heard_answer w next st n e =
+    let F : Bool → Type 0 = λ b. elim b as (λ _. Result) [ true ↦ next n (hear n st) | false ↦ Breaks st ] ≡ next n (hear n st) in
+    subst F (sym e) refl
+
+asked : (w : Want) (next : Note → Meaning) (st : State) (n : Note) → unread w st ≡ Some n → is_answer w n ≡ true → ask w next st ≡ next n (hear n st)
+unfolding ask
+asked w next st n there is = ap (answered w next st) there ∙ heard_answer w next st n is
+
+-- ---- each want with its note
+
+module _ (S : Scenario) (m : MethodNo) (before : List Line) (context : Context) (pool : List PoolNote) (store : List StoreNote) where
+  taken_next : (a : TxAttr) (c : ℕ) → fresh S m a (state before context (PoolNote.Taken c ∷ pool) store) ≡ begins S m a (Some c) (state (before ++ Line.Take (Some c) ∷ []) context pool store)
+  unfolding fresh ask
+  taken_next a c = refl
+
+  empty_next : (a : TxAttr) → fresh S m a (state before context (PoolNote.Empty ∷ pool) store)
+      ≡ leaves m (Some CANNOT_CREATE_TRANSACTION_EXCEPTION) (state ((before ++ Line.Take None ∷ []) ++ Line.Throw CANNOT_CREATE_TRANSACTION_EXCEPTION ∷ []) context pool store)
+  unfolding fresh ask begins
+  empty_next a = refl
+
+  begun_next : (a : TxAttr) (c t : ℕ) → begins S m a (Some c) (state before context pool (StoreNote.Begin t ∷ store)) ≡ opened S m a c t (state (before ++ Line.Begin t ∷ []) context pool store)
+  unfolding begins ask
+  begun_next a c t = refl
+
+  answer_next : (t u : ℕ) (a b : Access) (r : Answer) (next : Answer → Meaning) → store_answers (Want.Access t a) (StoreNote.Access u b r) ≡ true
+      → access_row t a next (state before context pool (StoreNote.Access u b r ∷ store)) ≡ unless_busy next r (state (before ++ Line.Row u b r ∷ []) context pool store)
+  answer_next t u a b r next is =
+      asked (Want.Access t a) (on_access (unless_busy next)) (state before context pool (StoreNote.Access u b r ∷ store)) (FromStore (StoreNote.Access u b r)) refl is
+
+  ended_next : (c t : ℕ) (e : Ending) (x : Option ClassNo) (n : StoreNote) → store_answers (ending_call t e) n ≡ true
+      → completes m c t e x (state before context pool (n ∷ store)) ≡ gives_back m c x (state (before ++ store_line n ∷ []) context pool store)
+  unfolding completes
+  ended_next c t e x n is =
+      asked (ending_call t e) (λ _. gives_back m c x) (state before context pool (n ∷ store)) (FromStore n) (first e) is
+    where
+      first : (e : Ending) → unread (ending_call t e) (state before context pool (n ∷ store)) ≡ Some (FromStore n)
+      first Ending.Commit = refl
+      first Ending.Rollback = refl
+      first Ending.Unexpected = refl
+
+  given_next : (c d : ℕ) (x : Option ClassNo) → pool_answers (Want.Give c) (PoolNote.Given d) ≡ true
+      → gives_back m c x (state before context (PoolNote.Given d ∷ pool) store) ≡ leaves m x (state (before ++ Line.Give d ∷ []) bare pool store)
+  unfolding gives_back
+  given_next c d x is =
+      asked (Want.Give c) (λ _ given. leaves m x (record { lines = given.lines; context = bare; marked = given.marked; pool = given.pool; store = given.store }))
+      (state before context (PoolNote.Given d ∷ pool) store) (FromPool (PoolNote.Given d)) refl is
+
+-- ---- each stage with its note
+
+-- inside a scope the context stays
+pub context_is : (S : Scenario) (scope : Scope) (stage : Stage) → IsIn scope stage → context_of S stage ≡ scope_context S scope
+context_is S scope (Stage.Accessing inner a d next) is = ap (scope_context S) is
+context_is S scope (Stage.Completing inner e x) is = ap (scope_context S) is
+context_is S scope (Stage.Opening m) is = elim is [ ]
+context_is S scope (Stage.Beginning m c) is = elim is [ ]
+context_is S scope (Stage.GivingBack inner x) is = elim is [ ]
+context_is S scope Stage.Done is = elim is [ ]
+context_is S scope Stage.Failed is = elim is [ ]
+
+-- what a stage leaves within the scope, the script leaves too
+pub within : (S : Scenario) (n top : ℕ) (scope : Scope) (stage : Stage) (lines : List Line) (pool : List PoolNote) (store : List StoreNote) → IsIn scope stage
+    → later_calls S n top (means S stage (state lines (scope_context S scope) pool store)) ≡ run S n (record { top = top; stage = stage }) lines pool store
+within S n top scope stage lines pool store is =
+    ap (λ c. later_calls S n top (means S stage (state lines c pool store))) (sym (context_is S scope stage is))
+
+module _ (S : Scenario) (n : ℕ) (at : At) (before after : List Line) where
+  pub hears_taken : (note : PoolNote) (m : MethodNo) (c : ℕ) → at.stage ≡ Stage.Opening m → note ≡ PoolNote.Taken c → after ≡ before ++ Line.Take (Some c) ∷ []
+      → HearsPool S n note at before (record { top = at.top; stage = Stage.Beginning m c }) after
+  hears_taken note m c stage is said pool store =
+      (λ i. run S n (record { top = at.top; stage = stage i }) before (is i ∷ pool) store)
+      ∙ ap (later_calls S n at.top) (taken_next S m before bare pool store default_attribute c)
+      ∙ ap (λ ls. run S n (record { top = at.top; stage = Stage.Beginning m c }) ls pool store) (sym said)
+
+  pub hears_empty : (note : PoolNote) (m : MethodNo) (next : At) (last : List Line) → at.stage ≡ Stage.Opening m → note ≡ PoolNote.Empty
+      → after ≡ (before ++ Line.Take None ∷ []) ++ Line.Throw CANNOT_CREATE_TRANSACTION_EXCEPTION ∷ []
+      → Runs S n bare (λ st. later_calls S n at.top (leaves m (Some CANNOT_CREATE_TRANSACTION_EXCEPTION) st)) after next last
+      → HearsPool S n note at before next last
+  hears_empty note m next last stage is said goes pool store =
+      (λ i. run S n (record { top = at.top; stage = stage i }) before (is i ∷ pool) store)
+      ∙ ap (later_calls S n at.top) (empty_next S m before bare pool store default_attribute)
+      ∙ ap (λ ls. later_calls S n at.top (leaves m (Some CANNOT_CREATE_TRANSACTION_EXCEPTION) (state ls bare pool store))) (sym said)
+      ∙ goes pool store
+
+  pub hears_given : (note : PoolNote) (scope : Scope) (x : Option ClassNo) (d : ℕ) (next : At) (last : List Line) → at.stage ≡ Stage.GivingBack scope x → note ≡ PoolNote.Given d
+      → pool_answers (want_of at.stage) note ≡ true → after ≡ before ++ Line.Give d ∷ []
+      → Runs S n bare (λ st. later_calls S n at.top (leaves scope.method x st)) after next last
+      → HearsPool S n note at before next last
+  hears_given note scope x d next last stage is answers said goes pool store =
+      let suits : pool_answers (Want.Give scope.connection) (PoolNote.Given d) ≡ true = (λ i. pool_answers (want_of (sym stage i)) (sym is i)) ∙ answers in
+      (λ i. run S n (record { top = at.top; stage = stage i }) before (is i ∷ pool) store)
+      ∙ ap (later_calls S n at.top) (given_next S scope.method before (scope_context S scope) pool store scope.connection d x suits)
+      ∙ ap (λ ls. later_calls S n at.top (leaves scope.method x (state ls bare pool store))) (sym said)
+      ∙ goes pool store
+
+  pub hears_begun : (note : StoreNote) (m : MethodNo) (c t : ℕ) (stage : Stage) (last : List Line) → at.stage ≡ Stage.Beginning m c → note ≡ StoreNote.Begin t
+      → after ≡ before ++ Line.Begin t ∷ [] → (let scope : Scope = record { method = m; connection = c; tx = t } in Opens S scope after stage last → IsIn scope stage
+      → (pool : List PoolNote) (store : List StoreNote) → run S n at before pool (note ∷ store) ≡ run S n (record { top = at.top; stage = stage }) last pool store)
+  hears_begun note m c t stage last was is said goes inside pool store =
+      let scope : Scope = record { method = m; connection = c; tx = t } in
+      (λ i. run S n (record { top = at.top; stage = was i }) before pool (is i ∷ store))
+      ∙ ap (later_calls S n at.top) (begun_next S m before bare pool store default_attribute c t
+      ∙ ap (λ ls. opened S m default_attribute c t (state ls bare pool store)) (sym said) ∙ goes pool store)
+      ∙ within S n at.top scope stage last pool store inside
+
+  pub hears_answer : (note : StoreNote) (scope : Scope) (a b : Access) (d : Then) (next t : ℕ) (r : Answer) (stage : Stage) (last : List Line)
+      → at.stage ≡ Stage.Accessing scope a d next → note ≡ StoreNote.Access t b r → store_answers (want_of at.stage) note ≡ true
+      → after ≡ before ++ Line.Row t b r ∷ [] → Comes S scope (hears S scope d next r) after stage last → IsIn scope stage
+      → (pool : List PoolNote) (store : List StoreNote) → run S n at before pool (note ∷ store) ≡ run S n (record { top = at.top; stage = stage }) last pool store
+  hears_answer note scope a b d next t r stage last was is answers said goes inside pool store =
+      let suits : store_answers (Want.Access scope.tx a) (StoreNote.Access t b r) ≡ true = (λ i. store_answers (want_of (sym was i)) (sym is i)) ∙ answers in
+      (λ i. run S n (record { top = at.top; stage = was i }) before pool (is i ∷ store))
+      ∙ ap (λ res. later_calls S n at.top (rest_of_body S scope next res)) (answer_next S scope.method before (scope_context S scope) pool store scope.tx t a b r (does scope.tx d) suits)
+      ∙ ap (later_calls S n at.top) (ap (λ ls. hears S scope d next r (state ls (scope_context S scope) pool store)) (sym said) ∙ goes pool store)
+      ∙ within S n at.top scope stage last pool store inside
+
+  pub hears_end : (note : StoreNote) (scope : Scope) (e : Ending) (x : Option ClassNo) → at.stage ≡ Stage.Completing scope e x
+      → store_answers (want_of at.stage) note ≡ true → after ≡ before ++ store_line note ∷ []
+      → (pool : List PoolNote) (store : List StoreNote)
+      → run S n at before pool (note ∷ store) ≡ run S n (record { top = at.top; stage = Stage.GivingBack scope x }) after pool store
+  hears_end note scope e x was answers said pool store =
+      let suits : store_answers (ending_call scope.tx e) note ≡ true = ap (λ s. store_answers (want_of s) note) (sym was) ∙ answers in
+      ap (λ s. run S n (record { top = at.top; stage = s }) before pool (note ∷ store)) was
+      ∙ ap (later_calls S n at.top) (ended_next S scope.method before (scope_context S scope) pool store scope.connection scope.tx e x note suits)
+      ∙ ap (λ ls. run S n (record { top = at.top; stage = Stage.GivingBack scope x }) ls pool store) (sym said)

@@ -1,0 +1,14 @@
+-- The lines are those of the script.
+use Rattle.std.proofs.Common.{◌≡◌, ◌∙◌, sym, ap}
+use Rattle.stx_model.specs.Meanings.{state_of}
+use Rattle.stx_client.specs.View.{script_of}
+use Rattle.stx_client.proofs.ClientLaws.{going, stops_now}
+use Rattle.stx_client.proofs.client.Client.finish.Goals as goal
+
+pub returns : goal.returns
+returns c =
+    let i = c.self.inside in
+    let k = c.self.invariant.0 in
+    let ok = going k i.is_out c.args.self c.self.view_is c.requires.failed in
+    let stops = stops_now i.setup.now.scenario i.number i.at i.lines.items i.pool.items i.store.items (k.runs ok) ok in
+    c.into_list.ensures ∙ sym (ap (λ v. (state_of (script_of v)).lines) (sym c.self.view_is) ∙ ap (λ r. (state_of r).lines) stops)

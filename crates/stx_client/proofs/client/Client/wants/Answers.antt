@@ -1,0 +1,12 @@
+-- The stage wants what the script stops at.
+use Rattle.std.proofs.Common.{◌≡◌, ◌∙◌, Some, sym, ap}
+use Rattle.stx_model.specs.Meanings.{stop_of}
+use Rattle.stx_client.proofs.ClientLaws.{stops_now}
+use Rattle.stx_client.proofs.client.Client.wants.Goals as goal
+
+pub returns-clause-want : goal.returns-clause-want
+returns-clause-want c =
+    let i = c.self.inside in
+    let k = c.self.invariant.0 in
+    rw (← c.self.view_is) (λ ok.
+    ap stop_of (stops_now i.setup.now.scenario i.number i.at i.lines.items i.pool.items i.store.items (k.runs ok) ok) ∙ ap Some (sym c.want.ensures))

@@ -1,0 +1,14 @@
+-- The scope opens, and its body begins.
+use Rattle.std.proofs.Common.{◌≡◌, ◌∙◌, ◌++◌, ◌∷◌, [], List, sym, ap}
+use Rattle.stx_model.specs.declared.line.Line.{Line}
+use Rattle.stx_model.specs.declared.manager.Kind.{Kind}
+use Rattle.stx_model.specs.Script.{opened}
+use Rattle.stx_client.specs.Machine.{state, scope_context, goes_on}
+use Rattle.stx_client.proofs.turns.open.Goals as goal
+
+pub returns-clause-goes : goal.returns-clause-goes
+unfolding opened
+returns-clause-goes c pool store =
+    let S = c.args.scenario.now in
+    let said = c.push.ensures.items ∙ ap (λ owns. c.args.lines.now.items ++ Line.Opened Kind.Fresh owns ∷ []) c.owns_fresh.ensures in
+    ap (λ ls. goes_on S c.args.scope 0 (state ls (scope_context S c.args.scope) pool store)) (sym said) ∙ c.goes_to.ensures.goes pool store

@@ -1,0 +1,161 @@
+-- What is left of a client's script at each stage of its machine.
+use Rattle.std.specs.Prelude.{◌≡◌, ℕ, ◌+◌, ℤ, ◌+ℤ◌, if◌then◌else◌, ◌<◌, ◌≤◌, false, List, [], ◌∷◌, drop, length, Option, Some, None, slice_get, ⊤}
+use Rattle.stx_scenario.specs.declared.numbers.ClassNo.{ClassNo}
+use Rattle.stx_scenario.specs.declared.numbers.MethodNo.{MethodNo}
+use Rattle.stx_scenario.specs.declared.scenario.Scenario.{Scenario}
+use Rattle.stx_scenario.specs.BuiltIn.{built_in}
+use Rattle.stx_model.specs.declared.call.Want.{Want}
+use Rattle.stx_scenario.specs.declared.scenario.Stmt.{Stmt}
+use Rattle.stx_model.specs.declared.history.Access.{Access}
+use Rattle.stx_model.specs.declared.history.Answer.{Answer}
+use Rattle.stx_model.specs.declared.history.PoolNote.{PoolNote}
+use Rattle.stx_model.specs.declared.history.StoreNote.{StoreNote}
+use Rattle.stx_model.specs.declared.line.Line.{Line}
+use Rattle.stx_model.specs.Contexts.{Context, bare}
+use Rattle.stx_model.specs.Meanings.{State, Result, Stops, Breaks, Meaning, and_then, finally}
+use Rattle.stx_model.specs.Weight.{body_of}
+use Rattle.stx_model.specs.Script.{is_value, body, unless_busy, access_row, nothing_more, needed, added, ends, ending_call, completes, gives_back, opened, begins, fresh, fresh_context, owns_fresh, tops, calls_of}
+use Rattle.stx_model.specs.Flat.{default_attribute}
+use Rattle.stx_client.specs.declared.stage.Scope.{Scope}
+use Rattle.stx_client.specs.declared.stage.Then.{Then}
+use Rattle.stx_client.specs.declared.stage.Stage.{Stage}
+use Rattle.stx_client.specs.declared.stage.At.{At}
+
+-- the lines said and the context, before these notes
+abbrev pub state : List Line → Context → List PoolNote → List StoreNote → State
+state lines context pool store = record { lines = lines; context = context; marked = false; pool = pool; store = store }
+
+abbrev pub scope_context : Scenario → Scope → Context
+scope_context S scope = fresh_context scope.connection scope.tx false (owns_fresh S.settings.mode)
+
+-- a scope's context stays until its connection is given back
+abbrev pub context_of : Scenario → Stage → Context
+context_of S (Stage.Accessing scope a d next) = scope_context S scope
+context_of S (Stage.Completing scope e x) = scope_context S scope
+context_of S (Stage.GivingBack scope x) = scope_context S scope
+context_of S _ = bare
+
+-- the shared call that a stage wants
+abbrev pub want_of : Stage → Want
+want_of (Stage.Opening m) = Want.Take
+want_of (Stage.Beginning m c) = Want.Begin
+want_of (Stage.Accessing scope a d next) = Want.Access scope.tx a
+want_of (Stage.Completing scope e x) = ending_call scope.tx e
+want_of (Stage.GivingBack scope x) = Want.Give scope.connection
+want_of Stage.Done = Want.Done
+want_of Stage.Failed = Want.Failed
+
+abbrev pub does : ℕ → Then → Answer → Meaning
+does t Then.Nothing = nothing_more
+does t (Then.Need n) = needed n
+does t (Then.Add k n) = added t k n
+
+-- the first access of a statement on a row, and what is done with its answer
+abbrev pub access_in : Stmt → Option (Access × Then)
+access_in (Stmt.Read k) = Some (Access.Read k, Then.Nothing)
+access_in (Stmt.Write k v) = Some (Access.Write k v, Then.Nothing)
+access_in (Stmt.Erase k) = Some (Access.Erase k, Then.Nothing)
+access_in (Stmt.Need k n) = Some (Access.Read k, Then.Need n)
+access_in (Stmt.Add k n) = Some (Access.Read k, Then.Add k n)
+access_in _ = None
+
+-- the statements from this place on, and then the end of the scope
+abbrev pub rest_of_body : Scenario → Scope → ℕ → Result → Result
+rest_of_body S scope next r =
+    finally (and_then r (body (drop next (body_of S scope.method)))) (ends S scope.method scope.connection scope.tx)
+
+-- a piece of the body that ends it, and then the end of the scope
+abbrev pub ends_with : Scenario → Scope → Meaning → Meaning
+ends_with S scope piece st = finally (piece st) (ends S scope.method scope.connection scope.tx)
+
+-- the statements from this place on
+abbrev pub goes_on : Scenario → Scope → ℕ → Meaning
+goes_on S scope place st = ends_with S scope (body (drop place (body_of S scope.method))) st
+
+-- the sum, if it is a value
+abbrev pub sum_of : ℤ → ℤ → Option ℤ
+sum_of v n = if is_value (v +ℤ n) then Some (v +ℤ n) else None
+
+-- after the answer to an access
+abbrev pub hears : Scenario → Scope → Then → ℕ → Answer → Meaning
+hears S scope d next answer st = rest_of_body S scope next (unless_busy (does scope.tx d) answer st)
+
+-- the class is one that there is
+abbrev pub is_known : Option ClassNo → Type 0
+is_known None = ⊤
+is_known (Some x) = x.0 < length built_in
+
+-- what is left of the call under way
+abbrev pub means : Scenario → Stage → Meaning
+means S (Stage.Opening m) st = fresh S m default_attribute st
+means S (Stage.Beginning m c) st = begins S m default_attribute (Some c) st
+means S (Stage.Accessing scope a d next) st = rest_of_body S scope next (access_row scope.tx a (does scope.tx d) st)
+means S (Stage.Completing scope e x) st = completes scope.method scope.connection scope.tx e x st
+means S (Stage.GivingBack scope x) st = gives_back scope.method scope.connection x st
+means S Stage.Done st = Stops Want.Done st
+means S Stage.Failed st = Breaks st
+
+-- and then the calls after it
+abbrev pub later_calls : Scenario → ℕ → ℕ → Result → Result
+later_calls S n top r = finally r (λ _. tops S (top + 1) (drop (top + 1) (calls_of S n)))
+
+-- the calls from this place on
+abbrev pub tops_from : Scenario → ℕ → ℕ → Meaning
+tops_from S n top st = tops S top (drop top (calls_of S n)) st
+
+-- what is left of the script of client n
+abbrev pub left : Scenario → ℕ → At → Meaning
+left S n at st = later_calls S n at.top (means S at.stage st)
+
+abbrev pub run : Scenario → ℕ → At → List Line → List PoolNote → List StoreNote → Result
+run S n at lines pool store = left S n at (state lines (context_of S at.stage) pool store)
+
+-- the method of a stage is one that there is
+abbrev pub IsMethod : Scenario → MethodNo → Type 0
+IsMethod S m = m.0 < length S.methods
+
+-- the call under way is one of a client's 64, and of a method that there is
+abbrev pub IsCall : Scenario → ℕ → MethodNo → Type 0
+IsCall S top m = IsMethod S m × (top < 64)
+
+abbrev pub IsSound : Scenario → ℕ → Stage → Type 0
+IsSound S top (Stage.Opening m) = IsCall S top m
+IsSound S top (Stage.Beginning m c) = IsCall S top m
+IsSound S top (Stage.Accessing scope a d next) = IsCall S top scope.method
+IsSound S top (Stage.Completing scope e x) = IsCall S top scope.method
+IsSound S top (Stage.GivingBack scope x) = IsCall S top scope.method
+IsSound S top _ = ⊤
+
+-- the stage goes on inside this scope
+abbrev pub IsIn : Scope → Stage → Type 0
+IsIn scope (Stage.Accessing inner a d next) = inner ≡ scope
+IsIn scope (Stage.Completing inner e x) = inner ≡ scope
+IsIn scope _ = ⊥
+
+-- inside a scope, this meaning is what is left at the stage, whatever notes are still to come
+abbrev pub Comes : Scenario → Scope → Meaning → List Line → Stage → List Line → Type 0
+Comes S scope meaning before stage after =
+    (pool : List PoolNote) (store : List StoreNote)
+    → meaning (state before (scope_context S scope) pool store) ≡ means S stage (state after (scope_context S scope) pool store)
+
+-- the same from the begin of the scope's transaction on, where the context is still bare
+abbrev pub Opens : Scenario → Scope → List Line → Stage → List Line → Type 0
+Opens S scope before stage after =
+    (pool : List PoolNote) (store : List StoreNote)
+    → opened S scope.method default_attribute scope.connection scope.tx (state before bare pool store)
+    ≡ means S stage (state after (scope_context S scope) pool store)
+
+-- this meaning is what is left of the script of client n, whatever notes are still to come
+abbrev pub Runs : Scenario → ℕ → Context → Meaning → List Line → At → List Line → Type 0
+Runs S n context meaning before at after =
+    (pool : List PoolNote) (store : List StoreNote) → meaning (state before context pool store) ≡ run S n at after pool store
+
+-- a note of the pool takes one machine to the other, whatever notes are still to come; likewise a note of the store,
+-- whichever the client is
+abbrev pub HearsPool : Scenario → ℕ → PoolNote → At → List Line → At → List Line → Type 0
+HearsPool S n note old before new after =
+    (pool : List PoolNote) (store : List StoreNote) → run S n old before (note ∷ pool) store ≡ run S n new after pool store
+
+abbrev pub HearsStore : Scenario → StoreNote → At → List Line → At → List Line → Type 0
+HearsStore S note old before new after =
+    (n : ℕ) (pool : List PoolNote) (store : List StoreNote) → run S n old before pool (note ∷ store) ≡ run S n new after pool store

@@ -1,0 +1,18 @@
+//! The machine of one client: it wants a shared call, takes in the reply, and says the lines of its script.
+#![tactic(auto)]
+
+mod body;
+mod calls;
+mod client;
+mod ending;
+mod notes;
+mod setup;
+mod stage;
+mod tokens;
+mod turns;
+
+pub use client::Client;
+pub use setup::Setup;
+
+#[cfg(test)]
+mod tests;

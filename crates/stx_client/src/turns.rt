@@ -1,0 +1,130 @@
+// What a note of the pool or of the store does: its line, and then all up to the next shared call.
+ghost use Rattle.std.specs.Prelude.{◌≡◌, ◌≤◌, ◌<◌, length, IsTrue};
+ghost use Rattle.stx_model.specs.Flat.{IsFlat};
+ghost use Rattle.stx_model.specs.Meanings.{pool_answers, store_answers};
+ghost use Rattle.stx_model.specs.Script.{owns_fresh as owns_in};
+ghost use Rattle.stx_client.specs.Holding.{Passes, with_taken, with_begun, nothing_new};
+ghost use Rattle.stx_client.specs.Machine.{IsSound, IsMethod, IsIn, HearsPool, HearsStore, Opens, want_of};
+
+use crate::body::{answered, goes_to};
+use crate::calls::leave;
+use crate::stage::{At, Scope, Stage};
+use stx_model::{Kind, Line, PoolNote, StoreNote};
+use stx_scenario::{CANNOT_CREATE_TRANSACTION_EXCEPTION, Roomy, Scenario, SyncMode};
+
+/// Goes on after a note of the pool that answers the stage's want.
+pub(crate) fn hear_pool(
+    scenario: &Scenario,
+    number: u32,
+    at: At,
+    note: PoolNote,
+    lines: &mut Roomy<Line>,
+) -> At
+    requires flat { IsFlat scenario.now }
+    requires client { number < length scenario.now.clients }
+    requires sound { IsSound scenario.now at.top at.stage }
+    requires answers { IsTrue (pool_answers (want_of at.stage) note) }
+    requires room { 5 ≤ lines.old.spare }
+    ensures goes { HearsPool scenario.now number note at lines.old.items result lines.new.items }
+    ensures sound { IsSound scenario.now result.top result.stage }
+    ensures tokens { Passes at.stage result.stage (with_taken note) nothing_new }
+{
+    match (at.stage, note) {
+        (Stage::Opening(method), PoolNote::Taken(connection)) => {
+            lines.push(Line::Take(Some(connection)));
+            At {
+                top: at.top,
+                stage: Stage::Beginning { method, connection },
+            }
+        }
+        (Stage::Opening(method), PoolNote::Empty) => {
+            lines.push(Line::Take(None));
+            lines.push(Line::Throw(CANNOT_CREATE_TRANSACTION_EXCEPTION));
+            let refused = Some(CANNOT_CREATE_TRANSACTION_EXCEPTION);
+            leave(scenario, number, at.top, method, refused, lines)
+        }
+        (Stage::GivingBack { scope, thrown }, PoolNote::Given(connection)) => {
+            lines.push(Line::Give(connection));
+            leave(scenario, number, at.top, scope.method, thrown, lines)
+        }
+        _ => unreachable!(),
+    }
+}
+
+/// Goes on after a note of the store that answers the stage's want.
+pub(crate) fn hear_store(
+    scenario: &Scenario,
+    at: At,
+    note: StoreNote,
+    lines: &mut Roomy<Line>,
+) -> At
+    requires flat { IsFlat scenario.now }
+    requires sound { IsSound scenario.now at.top at.stage }
+    requires answers { IsTrue (store_answers (want_of at.stage) note) }
+    requires room { 5 ≤ lines.old.spare }
+    ensures goes { HearsStore scenario.now note at lines.old.items result lines.new.items }
+    ensures sound { IsSound scenario.now result.top result.stage }
+    ensures tokens { Passes at.stage result.stage nothing_new (with_begun note) }
+{
+    let stage = match (at.stage, note) {
+        (Stage::Beginning { method, connection }, StoreNote::Begin(tx)) => {
+            lines.push(Line::Begin(tx));
+            open(
+                scenario,
+                Scope {
+                    method,
+                    connection,
+                    tx,
+                },
+                lines,
+            )
+        }
+        (
+            Stage::Accessing {
+                scope,
+                then,
+                next,
+                ..
+            },
+            StoreNote::Access { tx, access, answer },
+        ) => {
+            lines.push(Line::Row { tx, access, answer });
+            answered(scenario, scope, then, next, answer, lines)
+        }
+        (Stage::Completing { scope, thrown, .. }, StoreNote::Commit { tx, number }) => {
+            lines.push(Line::Commit { tx, number });
+            Stage::GivingBack { scope, thrown }
+        }
+        (Stage::Completing { scope, thrown, .. }, StoreNote::Rollback(tx)) => {
+            lines.push(Line::Rollback(tx));
+            Stage::GivingBack { scope, thrown }
+        }
+        _ => unreachable!(),
+    };
+    At { top: at.top, stage }
+}
+
+// Opens a scope, and goes on with the first statement of its body.
+fn open(scenario: &Scenario, scope: Scope, lines: &mut Roomy<Line>) -> Stage
+    requires flat { IsFlat scenario.now }
+    requires method { IsMethod scenario.now scope.method }
+    requires room { 4 ≤ lines.old.spare }
+    ensures goes { Opens scenario.now scope lines.old.items result lines.new.items }
+    ensures inside { IsIn scope result }
+{
+    lines.push(Line::Opened {
+        kind: Kind::Fresh,
+        owns: owns_fresh(scenario.settings.mode),
+    });
+    goes_to(scenario, scope, 0, lines)
+}
+
+/// Whether a fresh scope owns synchronisation.
+fn owns_fresh(mode: SyncMode) -> bool
+    ensures { result ≡ owns_in mode }
+{
+    match mode {
+        SyncMode::Never => false,
+        SyncMode::Always | SyncMode::Actual => true,
+    }
+}
