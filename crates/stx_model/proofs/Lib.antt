@@ -8,6 +8,8 @@ pub mod ProperNotes
 pub mod ProperLaw
 pub mod FreshLaw
 pub mod EntriesLaw
+pub mod PlayedLaw
+pub mod JournalText
 pub mod HistoryLaws
 pub mod LegalLaws
 pub mod PoolLaws

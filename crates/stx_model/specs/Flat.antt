@@ -13,7 +13,7 @@ use Rattle.stx_model.specs.Weight.{body_of}
 
 -- ---- methods
 
--- propagation required, not read-only, and no rules
+-- an attribute by default: propagation required, not read-only, and no rules (Spring: the defaults of @Transactional)
 abbrev pub default_attribute : TxAttr
 default_attribute = record { propagation = Propagation.Required; read_only = false; rules = [] }
 

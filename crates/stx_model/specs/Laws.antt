@@ -1,12 +1,13 @@
 -- The laws that public functions carry.
-use Rattle.std.specs.Prelude.{◌≡◌, ℕ, ℤ, ◌+◌, ◌*◌, ◌<◌, ◌≤◌, List, [], map, length}
+use Rattle.std.specs.Prelude.{◌≡◌, ℕ, ℤ, ◌+◌, ◌*◌, ◌<◌, ◌≤◌, List, [], map, length, Some}
 use Rattle.stx_scenario.specs.declared.scenario.Scenario.{Scenario}
 use Rattle.stx_model.specs.declared.call.Want.{Want}
 use Rattle.stx_model.specs.declared.history.PoolNote.{PoolNote}
 use Rattle.stx_model.specs.declared.history.PoolEntry.{PoolEntry}
 use Rattle.stx_model.specs.declared.history.StoreNote.{StoreNote}
 use Rattle.stx_model.specs.declared.history.StoreEntry.{StoreEntry}
-use Rattle.stx_model.specs.Faithful.{IsBalanced, connection_bracket, transaction_bracket}
+use Rattle.stx_model.specs.Faithful.{Faithful, IsBalanced, connection_bracket, transaction_bracket}
+use Rattle.stx_model.specs.Played.{Turns, want_so_far, outcome_of}
 use Rattle.stx_model.specs.Flat.{flat_weight}
 use Rattle.stx_model.specs.Histories.{pool_notes_of, store_notes_of, total}
 use Rattle.stx_model.specs.Legal.{PoolLegal, StoreLegal}
@@ -61,3 +62,11 @@ abbrev pub GivesAllBack : Type 0
 GivesAllBack = (S : Scenario) (c : ℕ) (pool : List PoolNote) (store : List StoreNote) (end : State)
     → script S c pool store ≡ Stops Want.Done end → end.pool ≡ [] → end.store ≡ []
     → (TakesFresh pool → out pool ≡ []) × (BeginsFresh store → live store ≡ [])
+
+-- what a play leaves is a faithful run, where the histories are legal, each script has read all of its notes, and each is done
+abbrev pub DoneIsFaithful : Type 0
+DoneIsFaithful = (S : Scenario) (so_far : Turns)
+    → PoolLegal (length S.clients) S.settings.pool so_far.pool → StoreLegal (length S.clients) S.values so_far.store
+    → ((c : ℕ) → c < length S.clients → ReadsAll S c (pool_notes_of so_far.pool c) (store_notes_of so_far.store c))
+    → ((c : ℕ) → c < length S.clients → want_so_far S so_far c ≡ Some Want.Done)
+    → Faithful S (outcome_of S so_far)

@@ -1,5 +1,5 @@
 // The laws of the definitions, each carried by the contract of a function that does nothing.
-ghost use Rattle.stx_model.specs.Laws.{Balanced, EntriesWithin, GivesAllBack, JournalIsSerial, OwnNotesFresh, ReadsInOrder, ReadsWithin, WantsProper};
+ghost use Rattle.stx_model.specs.Laws.{Balanced, DoneIsFaithful, EntriesWithin, GivesAllBack, JournalIsSerial, OwnNotesFresh, ReadsInOrder, ReadsWithin, WantsProper};
 
 /// The store's journal is a serial order. Take any legal history of the store, and run the committed transactions and
 /// the own statements alone, one after the other, in the order of the journal: each finds exactly the answers that it
@@ -51,4 +51,10 @@ pub fn balanced()
 /// in the client's own notes.
 pub fn gives_all_back()
     ensures { GivesAllBack }
+{}
+
+/// What a play leaves is faithful. Where the histories of the pool and of the store are legal, and each client's script
+/// has read all of the client's own notes and is done, the outcome with the scripts' lines is a faithful run.
+pub fn done_is_faithful()
+    ensures { DoneIsFaithful }
 {}

@@ -15,8 +15,8 @@ pub use call::{Call, PoolAnswer, PoolCall, Reply, StoreAnswer, StoreCall, Want};
 pub use cost::Cost;
 pub use history::{Access, Answer, PoolEntry, PoolNote, StoreEntry, StoreNote};
 pub use laws::{
-    balanced, entries_within, gives_all_back, journal_is_serial, own_notes_fresh, reads_in_order,
-    reads_within, wants_proper,
+    balanced, done_is_faithful, entries_within, gives_all_back, journal_is_serial, own_notes_fresh,
+    reads_in_order, reads_within, wants_proper,
 };
 pub use line::{Label, Line};
 pub use manager::{Ending, Kind, Opening, Round};
