@@ -1,0 +1,6 @@
+pub mod AskingLaws
+pub mod TurnLaws
+pub mod RangeLaws
+pub mod PlayedLaws
+pub mod ScheduleLaws
+pub mod FixtureLaws

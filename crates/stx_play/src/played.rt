@@ -1,0 +1,167 @@
+// A play under way: the pool, the store and the clients.
+ghost use Rattle.std.specs.Prelude.{◌≡◌, ◌<◌, ◌↔◌, length, map, false, Some, IfOk, OnOk, IsTrue};
+ghost use Rattle.std.specs.List.{range_with_len};
+ghost use Rattle.stx_model.specs.Faithful.{Faithful};
+ghost use Rattle.stx_model.specs.Flat.{IsFlat};
+ghost use Rattle.stx_model.specs.Played.{run_out, outcome_of};
+ghost use Rattle.stx_client.specs.View.{at_start};
+ghost use Rattle.stx_play.specs.Playing.{unplayed, with_turn, with_turns, HasOneMore, IsClientDone, AllDone, EachEnded, lines_in, HaveReadNothing};
+
+use crate::turn::take_turn;
+use std::alloc::Global;
+use std::marker::Model;
+use stx_client::{Client, Setup};
+use stx_model::{ClientLines, Outcome, Want};
+use stx_pool::PoolCore;
+use stx_scenario::{List, NoMemory};
+use stx_store::StoreCore;
+
+/// A play under way, seen as the histories of its pool and its store. After want of memory it can only be dropped.
+#[derive(Drop)]
+pub struct Played<'a> {
+    setup: &'a Setup,
+    pool: PoolCore,
+    store: StoreCore,
+    clients: Vec<Client<'a>>,
+    failed: bool,
+}
+
+impl<'a> Model for Played<'a> {
+    ghost use Rattle.stx_play.specs.Playing.{Playing, IsKept, turns_of};
+
+    ghost Value = { Playing };
+
+    ghost view = { λ p. record { scenario = p.setup.now.scenario; so_far = turns_of p.pool p.store; failed = p.failed } };
+
+    ghost invariant = { λ p. IsKept p.setup.now.scenario p.failed p.pool p.store p.clients.items };
+}
+
+impl<'a> Played<'a> {
+    /// A play of a scenario, before its first turn.
+    pub fn new(alloc: Global, setup: &'a Setup) -> Result<Played<'a>, NoMemory>
+        requires { IsFlat setup.now.scenario }
+        ensures { IfOk result (λ play. play ≡ unplayed setup.now.scenario) }
+    {
+        let pool = PoolCore::new(alloc, setup.scenario.settings.pool)?;
+        let store = StoreCore::new(alloc, &setup.scenario.values)?;
+        let clients = clients_of(alloc, setup)?;
+        Ok(Played {
+            setup,
+            pool,
+            store,
+            clients,
+            failed: false,
+        })
+    }
+
+    /// Whether the client with this number, from 0, has made all of its calls.
+    pub fn is_done(&self, client: u32) -> bool
+        requires going { self.now.failed ≡ false }
+        requires client { client < length self.now.scenario.clients }
+        ensures { IsTrue result ↔ IsClientDone self.now.scenario self.now.so_far client }
+    {
+        match self.clients[client as usize].wants() {
+            Want::Done => true,
+            _ => false,
+        }
+    }
+
+    /// Makes one turn of a client: its next shared call, or nothing where it is done.
+    pub fn step(&mut self, alloc: Global, client: u32) -> Result<(), NoMemory>
+        requires going { self.old.failed ≡ false }
+        requires client { client < length self.old.scenario.clients }
+        ensures { OnOk result (self.new ≡ with_turn self.old client) }
+    {
+        if self.is_done(client) {
+            return Ok(());
+        }
+        self.make_call(alloc, client)
+    }
+
+    // Makes the call that a client wants. All calls of all clients are bounded by the scenario's weight.
+    fn make_call(&mut self, alloc: Global, client: u32) -> Result<(), NoMemory>
+        requires going { self.old.failed ≡ false }
+        requires client { client < length self.old.scenario.clients }
+        requires more { ¬ (IsClientDone self.old.scenario self.old.so_far client) }
+        ensures turn { OnOk result (self.new ≡ with_turn self.old client) }
+        ensures one_more { OnOk result (HasOneMore self.old self.new) }
+    {
+        self.failed = true;
+        take_turn(
+            alloc,
+            &self.setup.scenario,
+            &mut self.clients[client as usize],
+            client,
+            &mut self.pool,
+            &mut self.store,
+        )?;
+        self.failed = false;
+        Ok(())
+    }
+
+    /// Makes turns of a client until it is done.
+    pub(crate) fn run_out(&mut self, alloc: Global, client: u32) -> Result<(), NoMemory>
+        requires going { self.old.failed ≡ false }
+        requires client { client < length self.old.scenario.clients }
+        ensures turns { OnOk result (self.new ≡ with_turns self.old (run_out self.old.scenario self.old.so_far client)) }
+        ensures done { OnOk result (IsClientDone self.new.scenario self.new.so_far client) }
+    {
+        while !self.is_done(client) {
+            self.make_call(alloc, client)?;
+        }
+        Ok(())
+    }
+
+    /// Whether every client has made all of its calls.
+    pub fn all_done(&self) -> bool
+        requires { self.now.failed ≡ false }
+        ensures { IsTrue result ↔ AllDone self.now.scenario self.now.so_far }
+    {
+        for client in 0..self.setup.scenario.clients.len() {
+            if !self.is_done(client as u32) {
+                return false;
+            }
+        }
+        true
+    }
+
+    /// The outcome of a play in which every client is done: the clients' lines and the two histories.
+    pub fn finish(self, alloc: Global) -> Result<Outcome, NoMemory>
+        requires going { self.failed ≡ false }
+        requires done { AllDone self.scenario self.so_far }
+        ensures outcome { IfOk result (λ outcome. outcome ≡ outcome_of self.entry.scenario self.entry.so_far) }
+        ensures faithful { IfOk result (λ outcome. Faithful self.entry.scenario outcome) }
+    {
+        let lines = lines_of(alloc, self.clients)?;
+        Ok(Outcome {
+            lines,
+            pool: self.pool.into_entries(),
+            store: self.store.into_entries(),
+        })
+    }
+}
+
+// The clients of a scenario, each at its first call.
+fn clients_of<'a>(alloc: Global, setup: &'a Setup) -> Result<Vec<Client<'a>>, NoMemory>
+    requires { IsFlat setup.now.scenario }
+    ensures clients { IfOk result (λ clients. clients.items ≡ map (at_start setup.now.scenario) (range_with_len 0 (length setup.now.scenario.clients))) }
+    ensures read { OnOk result (HaveReadNothing setup.now.scenario (length setup.now.scenario.clients)) }
+{
+    let mut clients = Vec::new(alloc);
+    for number in 0..setup.scenario.clients.len() {
+        clients.push(Client::new(alloc, setup, number as u32)?)?;
+    }
+    Ok(clients)
+}
+
+// The lines of clients that are done, in their order.
+fn lines_of(alloc: Global, clients: Vec<Client<'_>>) -> Result<List<ClientLines>, NoMemory>
+    requires { EachEnded clients.items }
+    ensures { IfOk result (λ lines. lines ≡ map lines_in clients.entry.items) }
+{
+    let mut lines = List::new(alloc);
+    for client in clients {
+        lines.push(client.finish())?;
+    }
+    Ok(lines)
+}
