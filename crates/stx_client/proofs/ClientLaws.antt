@@ -1,6 +1,5 @@
 -- A client's lines start those of its script, and its machine stops where the script does.
-use Rattle.std.proofs.Common.{◌≡◌, ℕ, ◌+◌, ◌++◌, ◌∷◌, [], false, true, drop, List, Bool, Option, Some, None, refl, sym, ap, ◌∙◌, append-nil, append_assoc, ◌<◌, length}
-use Rattle.stx_scenario.specs.declared.numbers.ClassNo.{ClassNo}
+use Rattle.std.proofs.Common.{◌≡◌, ℕ, ◌+◌, ◌++◌, ◌∷◌, [], false, true, drop, List, Bool, Some, None, refl, sym, ap, ◌∙◌, append-nil, append_assoc}
 use Rattle.stx_scenario.specs.declared.scenario.Scenario.{Scenario}
 use Rattle.std.specs.Prelude.{if◌then◌else◌}
 use Rattle.std.proofs.lemmas.Bool.{false≢true}
@@ -12,17 +11,16 @@ use Rattle.stx_model.specs.declared.history.PoolNote.{PoolNote}
 use Rattle.stx_model.specs.declared.history.StoreNote.{StoreNote}
 use Rattle.stx_model.specs.declared.line.Line.{Line}
 use Rattle.stx_model.specs.declared.manager.Ending.{Ending}
-use Rattle.stx_model.specs.Meanings.{State, Result, Stops, Breaks, state_of, stop_of, Meaning, and_then, finally, ask}
+use Rattle.stx_model.specs.Meanings.{Stops, state_of, stop_of, and_then, finally, ask}
 use Rattle.stx_model.specs.Weight.{body_of}
-use Rattle.stx_model.specs.Script.{script, tops, calls_of, body, access_row, nothing_more, needed, added, ends, ending_call, completes, gives_back, begins, fresh}
+use Rattle.stx_model.specs.Script.{script, tops, calls_of, body, access_row, ends, completes, gives_back, begins, fresh}
 use Rattle.stx_model.specs.Flat.{default_attribute}
 use Rattle.stx_model.specs.Reads.{ReadsAll}
-use Rattle.stx_model.proofs.Growth.{Starts, Grows, finally_grows, and_then_grows, access_grows, nothing_grows, needed_grows, added_grows, body_grows, ends_grows, gives_back_grows, completes_grows, begins_grows, fresh_grows, tops_grows}
-use Rattle.stx_client.specs.declared.stage.Scope.{Scope}
+use Rattle.stx_model.proofs.Growth.{Grows, finally_grows, and_then_grows, access_grows, nothing_grows, needed_grows, added_grows, body_grows, ends_grows, gives_back_grows, completes_grows, begins_grows, fresh_grows, tops_grows}
 use Rattle.stx_client.specs.declared.stage.Then.{Then}
 use Rattle.stx_client.specs.declared.stage.Stage.{Stage}
 use Rattle.stx_client.specs.declared.stage.At.{At}
-use Rattle.stx_client.specs.Machine.{state, context_of, want_of, does, means, left, run}
+use Rattle.stx_client.specs.Machine.{state, context_of, want_of, does, means, run}
 use Rattle.stx_client.specs.Holding.{has_failed}
 use Rattle.stx_client.specs.View.{Playing, Keeps, StartsWith, script_of, is_reply}
 

@@ -1,12 +1,11 @@
 -- A scenario whose one client calls its one method is flat.
-use Rattle.std.proofs.Common.{◌≡◌, ℕ, zero, suc, ◌≤◌, true, List, [], ◌∷◌, length, Some, None, refl, sym, ap, ◌∙◌, subst, arith}
+use Rattle.std.proofs.Common.{◌≡◌, ℕ, zero, suc, List, [], ◌∷◌, Some, None, refl, sym, subst, arith}
 use Rattle.std.specs.Prelude.{slice_get}
-use Rattle.std.specs.List.{list_all}
 use Rattle.stx_scenario.specs.declared.numbers.MethodNo.{MethodNo}
 use Rattle.stx_scenario.specs.declared.scenario.Scenario.{Scenario}
 use Rattle.stx_scenario.specs.declared.scenario.Method.{Method}
 use Rattle.stx_scenario.specs.BuiltIn.{built_in}
-use Rattle.stx_model.specs.Flat.{IsFlat, IsFlatMethod, AreFlatCalls, default_attribute, is_flat, flat_weight}
+use Rattle.stx_model.specs.Flat.{IsFlat, IsFlatMethod, AreFlatCalls}
 
 module _ (S : Scenario) (only : Method) (methods : S.methods ≡ only ∷ []) (clients : S.clients ≡ (record { 0 = 0 } ∷ []) ∷ []) where
   method_is : IsFlatMethod only → (ms : List Method) → only ∷ [] ≡ ms → (m : ℕ) (method : Method) → slice_get ms m ≡ Some method → IsFlatMethod method

@@ -3,7 +3,6 @@ use Rattle.std.proofs.Common.{◌≡◌, ℕ, ◌==◌, true, refl, eq-eqb}
 use Rattle.std.proofs.lemmas.Bool.Decides.{Decides-int_eq}
 use Rattle.stx_model.specs.declared.call.Want.{Want}
 use Rattle.stx_model.specs.declared.call.Reply.{Reply}
-use Rattle.stx_model.specs.declared.call.PoolAnswer.{PoolAnswer}
 use Rattle.stx_model.specs.declared.call.StoreAnswer.{StoreAnswer}
 use Rattle.stx_model.specs.declared.history.Access.{Access}
 use Rattle.stx_model.specs.declared.history.Answer.{Answer}

@@ -1,7 +1,7 @@
 -- Steps of a machine: what the script says at a statement, at an answer, and at a call.
-use Rattle.std.proofs.Common.{◌⊎◌, inl, inr, get_or, ◌≡◌, ℕ, zero, suc, ◌+◌, ◌<◌, ◌≤◌, ◌==◌, Bool, true, false, List, [], ◌∷◌, ◌++◌, drop, length, Option, Some, None, refl, sym, ap, ◌∙◌, subst, arith, add-one}
+use Rattle.std.proofs.Common.{◌⊎◌, inl, inr, get_or, ◌≡◌, ℕ, zero, suc, ◌+◌, ◌<◌, ◌≤◌, Bool, true, false, List, [], ◌∷◌, ◌++◌, drop, length, Option, Some, None, refl, sym, ap, ◌∙◌, subst, arith, add-one}
 use Rattle.std.specs.Prelude.{slice_get, unwrap_or, nat_lt}
-use Rattle.std.specs.Option.{option_map, option_and_then, option_or}
+use Rattle.std.specs.Option.{option_and_then, option_or}
 use Rattle.std.specs.List.{list_all}
 use Rattle.std.proofs.lemmas.Bool.{and_parts, ltb-true}
 use Rattle.std.proofs.lemmas.Option.{slice_get_cases, slice_get_within}
@@ -21,7 +21,7 @@ use Rattle.stx_model.specs.Contexts.{bare}
 use Rattle.stx_model.specs.Meanings.{State, Stops, Meaning, and_then, finally, say}
 use Rattle.stx_model.specs.Weight.{body_in, body_of}
 use Rattle.stx_model.specs.Script.{body, statement, statement_in, access_row, throws, ends, fresh, intercepted, invoke, tops, calls_of}
-use Rattle.stx_model.specs.Flat.{IsFlat, IsFlatMethod, AreFlatCalls, default_attribute, is_flat}
+use Rattle.stx_model.specs.Flat.{IsFlat, default_attribute, is_flat}
 use Rattle.stx_client.specs.declared.stage.Scope.{Scope}
 use Rattle.stx_client.specs.declared.stage.Then.{Then}
 use Rattle.stx_client.specs.declared.stage.Stage.{Stage}

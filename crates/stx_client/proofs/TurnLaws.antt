@@ -13,14 +13,14 @@ use Rattle.stx_model.specs.declared.history.StoreNote.{StoreNote}
 use Rattle.stx_model.specs.declared.line.Line.{Line}
 use Rattle.stx_model.specs.declared.manager.Ending.{Ending}
 use Rattle.stx_model.specs.Contexts.{Context, bare}
-use Rattle.stx_model.specs.Meanings.{State, Result, Breaks, Meaning, Note, FromPool, FromStore, say, unread, hear, heard, answered, is_answer, pool_answers, store_answers, store_line, on_access, ask}
+use Rattle.stx_model.specs.Meanings.{State, Result, Breaks, Meaning, Note, FromPool, FromStore, unread, hear, heard, answered, is_answer, pool_answers, store_answers, store_line, on_access, ask}
 use Rattle.stx_model.specs.Script.{unless_busy, access_row, leaves, gives_back, ending_call, completes, opened, begins, fresh}
 use Rattle.stx_model.specs.Flat.{default_attribute}
 use Rattle.stx_client.specs.declared.stage.Scope.{Scope}
 use Rattle.stx_client.specs.declared.stage.Then.{Then}
 use Rattle.stx_client.specs.declared.stage.Stage.{Stage}
 use Rattle.stx_client.specs.declared.stage.At.{At}
-use Rattle.stx_client.specs.Machine.{state, scope_context, context_of, want_of, does, means, hears, rest_of_body, later_calls, run, IsIn, Comes, Runs, Opens, HearsPool, HearsStore}
+use Rattle.stx_client.specs.Machine.{state, scope_context, context_of, want_of, does, means, hears, rest_of_body, later_calls, run, IsIn, Comes, Runs, Opens, HearsPool}
 
 -- ---- asking
 

@@ -1,5 +1,5 @@
 -- What is left of a client's script at each stage of its machine.
-use Rattle.std.specs.Prelude.{◌≡◌, ℕ, ◌+◌, ℤ, ◌+ℤ◌, if◌then◌else◌, ◌<◌, ◌≤◌, false, List, [], ◌∷◌, drop, length, Option, Some, None, slice_get, ⊤}
+use Rattle.std.specs.Prelude.{◌≡◌, ℕ, ◌+◌, ℤ, ◌+ℤ◌, if◌then◌else◌, ◌<◌, false, List, ◌∷◌, drop, length, Option, Some, None, ⊤}
 use Rattle.stx_scenario.specs.declared.numbers.ClassNo.{ClassNo}
 use Rattle.stx_scenario.specs.declared.numbers.MethodNo.{MethodNo}
 use Rattle.stx_scenario.specs.declared.scenario.Scenario.{Scenario}

@@ -1,9 +1,7 @@
 -- The statement at the place, or the end of the body.
-use Rattle.std.proofs.Common.{◌≡◌, ◌∙◌, ◌<◌, ◌≤◌, length, Some, None, sym, ap, arith}
-use Rattle.std.specs.Prelude.{slice_get}
+use Rattle.std.proofs.Common.{◌∙◌, sym, ap, arith}
 use Rattle.std.specs.Option.{option_copied}
 use Rattle.std.proofs.lemmas.Option.{slice_get_within}
-use Rattle.stx_model.specs.Flat.{is_flat}
 use Rattle.stx_client.proofs.StepLaws.{flat_at, few_statements, known, no_statement, at_access, at_throw}
 use Rattle.stx_client.proofs.body.goes_to.Goals as goal
 

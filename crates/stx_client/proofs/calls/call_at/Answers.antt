@@ -1,5 +1,5 @@
 -- The next call, or none.
-use Rattle.std.proofs.Common.{◌≡◌, ◌∙◌, ◌++◌, ◌∷◌, [], false, sym, ap}
+use Rattle.std.proofs.Common.{◌∙◌, ◌++◌, ◌∷◌, [], false, sym, ap}
 use Rattle.stx_scenario.specs.declared.scenario.Propagation.{Propagation}
 use Rattle.stx_model.specs.declared.line.Line.{Line}
 use Rattle.std.specs.Option.{option_copied}

@@ -1,5 +1,5 @@
 -- Each note of the pool, at the stage that wants it.
-use Rattle.std.proofs.Common.{◌≡◌, ◌∙◌, ◌++◌, ◌∷◌, [], Some, ap}
+use Rattle.std.proofs.Common.{◌∙◌, ◌++◌, ◌∷◌, [], ap}
 use Rattle.stx_scenario.specs.declared.classes.TheConstants.{CANNOT_CREATE_TRANSACTION_EXCEPTION}
 use Rattle.stx_model.specs.declared.line.Line.{Line}
 use Rattle.stx_client.proofs.TurnLaws.{hears_taken, hears_empty, hears_given}

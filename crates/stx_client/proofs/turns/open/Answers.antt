@@ -1,5 +1,5 @@
 -- The scope opens, and its body begins.
-use Rattle.std.proofs.Common.{◌≡◌, ◌∙◌, ◌++◌, ◌∷◌, [], List, sym, ap}
+use Rattle.std.proofs.Common.{◌∙◌, ◌++◌, ◌∷◌, [], sym, ap}
 use Rattle.stx_model.specs.declared.line.Line.{Line}
 use Rattle.stx_model.specs.declared.manager.Kind.{Kind}
 use Rattle.stx_model.specs.Script.{opened}

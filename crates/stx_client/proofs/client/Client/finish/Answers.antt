@@ -1,5 +1,5 @@
 -- The lines are those of the script.
-use Rattle.std.proofs.Common.{◌≡◌, ◌∙◌, sym, ap}
+use Rattle.std.proofs.Common.{◌∙◌, sym, ap}
 use Rattle.stx_model.specs.Meanings.{state_of}
 use Rattle.stx_client.specs.View.{script_of}
 use Rattle.stx_client.proofs.ClientLaws.{going, stops_now}

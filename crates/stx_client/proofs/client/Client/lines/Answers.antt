@@ -1,5 +1,5 @@
 -- The lines are those of the script, which has read every note.
-use Rattle.std.proofs.Common.{◌≡◌, ◌∙◌, sym, ap}
+use Rattle.std.proofs.Common.{ap}
 use Rattle.stx_model.specs.Meanings.{state_of}
 use Rattle.stx_client.proofs.ClientLaws.{stops_now, reads_now}
 use Rattle.stx_client.proofs.client.Client.lines.Goals as goal

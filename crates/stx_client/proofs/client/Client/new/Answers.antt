@@ -1,7 +1,5 @@
 -- A client begins with its first call.
-use Rattle.std.proofs.Common.{◌≡◌, ◌∙◌, ◌≤◌, ◌++◌, [], false, true, None, List, refl, sym, ap, arith}
-use Rattle.stx_model.specs.declared.history.PoolNote.{PoolNote}
-use Rattle.stx_model.specs.declared.history.StoreNote.{StoreNote}
+use Rattle.std.proofs.Common.{◌≡◌, ◌∙◌, ◌++◌, [], false, None, sym, ap, arith}
 use Rattle.stx_model.specs.Contexts.{bare}
 use Rattle.stx_model.specs.Script.{script}
 use Rattle.stx_client.specs.Machine.{state, tops_from}

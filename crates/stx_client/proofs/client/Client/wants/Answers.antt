@@ -1,5 +1,5 @@
 -- The stage wants what the script stops at.
-use Rattle.std.proofs.Common.{◌≡◌, ◌∙◌, Some, sym, ap}
+use Rattle.std.proofs.Common.{◌∙◌, Some, sym, ap}
 use Rattle.stx_model.specs.Meanings.{stop_of}
 use Rattle.stx_client.proofs.ClientLaws.{stops_now}
 use Rattle.stx_client.proofs.client.Client.wants.Goals as goal
