@@ -3,8 +3,6 @@ pub mod StatementLaws
 pub mod ReadingLaws
 pub mod ItemLaws
 pub mod ReadingBuilt
-pub mod OneCallLaws
-pub mod OneCallFaithful
 pub mod ReportLaws
 pub mod RowValues
 pub mod ToolLaws

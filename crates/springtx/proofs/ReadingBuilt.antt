@@ -1,6 +1,6 @@
--- What is read has the form that is played: one client with one call of one method that reads and writes rows.
-use Rattle.std.proofs.Common.{◌≡◌, ℕ, suc, ◌+◌, ◌≤◌, ◌==◌, Bool, true, false, List, [], ◌∷◌, ◌++◌, length, Option, Some, None, Ok, refl, ap, subst, arith, length-append, lit<, lit≤}
-use Rattle.std.specs.Prelude.{◌&&◌, nat_le, codes, if◌then◌else◌}
+-- What is read has the form that is played: methods that call no other.
+use Rattle.std.proofs.Common.{◌≡◌, ℕ, zero, suc, ◌+◌, ◌≤◌, ◌==◌, Bool, true, false, List, [], ◌∷◌, ◌++◌, length, Option, Some, None, Ok, refl, ap, subst, arith, length-append, lit≤}
+use Rattle.std.specs.Prelude.{◌&&◌, nat_le, slice_get, codes, if◌then◌else◌}
 use Rattle.std.specs.Option.{option_and_then, option_map, ok_or}
 use Rattle.std.specs.List.{list_all, slice_split}
 use Rattle.std.specs.Str.{bytes_eq}
@@ -17,8 +17,11 @@ use Rattle.springtx.specs.declared.statements.Draft.{Draft}
 use Rattle.springtx.specs.Names.{is_name, number_in}
 use Rattle.springtx.specs.Items.{read_each}
 use Rattle.springtx.specs.Statements.{with_statement, statement_words, statement_in, statement_at, no_statements}
-use Rattle.springtx.specs.Reading.{count, body_items, body_in, method_with, bean_named, name_in, defaults_in, has_only, method_in, the_table_at, the_beans, the_method, the_call, one_call, if_called, scenario_in, scenario_of_document, document_of, scenario_of}
-use Rattle.springtx.specs.OneCall.{is_row_statement, IsOneCall}
+use Rattle.springtx.specs.Reading.{count, body_items, body_in, method_with, bean_named, name_in, defaults_in, has_only, method_in, the_table_at, the_beans, the_method, the_call, drafted_method, one_call, if_called, scenario_in, scenario_of_document, document_of, scenario_of}
+use Rattle.stx_scenario.specs.declared.numbers.MethodNo.{MethodNo}
+use Rattle.stx_scenario.specs.declared.scenario.Method.{Method}
+use Rattle.stx_model.specs.Flat.{is_flat, IsFlatMethod, AreFlatCalls}
+use Rattle.springtx.specs.Built.{IsBuilt}
 use Rattle.springtx.proofs.StatementLaws.{statement_at-rows}
 
 -- ---- the parts of a chain that gave something
@@ -39,10 +42,10 @@ if_some false o y e = cc
 
 record Grows (draft next : Draft) : Type 0 where
   statement : Stmt
-  is_row : is_row_statement statement ≡ true
+  is_row : is_flat statement ≡ true
   body : next.body ≡ draft.body ++ statement ∷ []
 
-grown : (draft next : Draft) (row : List ℕ) (s : RowNo → Stmt) → ((k : RowNo) → is_row_statement (s k) ≡ true) → Some (with_statement draft row s) ≡ Some next → Grows draft next
+grown : (draft next : Draft) (row : List ℕ) (s : RowNo → Stmt) → ((k : RowNo) → is_flat (s k) ≡ true) → Some (with_statement draft row s) ≡ Some next → Grows draft next
 grown draft next row s rows e =
     let same : with_statement draft row s ≡ next = cc in
     subst (Grows draft) same (record { statement = _; is_row = rows _; body = refl })
@@ -68,14 +71,14 @@ item-grows draft next d e =
 -- ---- the body
 
 record IsRowBody (draft : Draft) (most : ℕ) : Type 0 where
-  rows : list_all is_row_statement draft.body ≡ true
+  rows : list_all is_flat draft.body ≡ true
   few : length draft.body ≤ most
   names : length draft.rows ≤ most
 
-all-push : (ss : List Stmt) (s : Stmt) → list_all is_row_statement ss ≡ true → is_row_statement s ≡ true → list_all is_row_statement (ss ++ s ∷ []) ≡ true
+all-push : (ss : List Stmt) (s : Stmt) → list_all is_flat ss ≡ true → is_flat s ≡ true → list_all is_flat (ss ++ s ∷ []) ≡ true
 all-push [] s all row = rw row
 all-push (x ∷ ss) s all row =
-    let (first, rest) = and_parts (is_row_statement x) (list_all is_row_statement ss) all in
+    let (first, rest) = and_parts (is_flat x) (list_all is_flat ss) all in
     rw (first, all-push ss s rest row)
 
 next-body : (draft next : Draft) (n : ℕ) → Grows draft next → length next.rows ≤ length draft.rows + 1 → IsRowBody draft n → IsRowBody next (suc n)
@@ -126,19 +129,44 @@ method-built beans table method e =
 
 -- ---- the scenario
 
-one-built : (beans : List Bean) (method : MethodDraft) → IsRowBody method.draft 256 → IsOneCall (one_call beans method)
-one-built beans method b = record {
-  clients = refl;
-  methods = lit< tt;
-  tx = refl;
-  body = b.rows;
-  few = b.few;
-  rows = b.names;
-  some = lit≤ tt;
-  most = lit≤ tt;
-}
+abbrev the_call_list : List MethodNo
+the_call_list = record { 0 = 0 } ∷ []
 
-document-built : (root : Members) (S : Scenario) → scenario_in root ≡ Some S → IsOneCall S
+module _ (beans : List Bean) (method : MethodDraft) (b : IsRowBody method.draft 256) where
+  S : Scenario
+  S = one_call beans method
+
+  method-flat : (m : ℕ) (found : Method) → slice_get S.methods m ≡ Some found → IsFlatMethod found
+  unfolding S
+  method-flat zero found there =
+      let same : drafted_method method ≡ found = cc in
+      subst IsFlatMethod same (record { tx = refl; few = b.few; body = b.rows })
+  method-flat (suc m) found there = cc
+
+  calls-flat : (c : ℕ) (calls : List MethodNo) → slice_get S.clients c ≡ Some calls → AreFlatCalls S calls
+  unfolding S
+  calls-flat zero calls there =
+      let same : the_call_list ≡ calls = cc in
+      subst (AreFlatCalls (one_call beans method)) same (record { few = omega arith; there = refl })
+  calls-flat (suc c) calls there = cc
+
+  one-built : IsBuilt (one_call beans method)
+  unfolding S
+  one-built = record {
+    flat = record {
+      classes = refl;
+      methods = method-flat;
+      clients = calls-flat;
+      few_clients = lit≤ tt;
+      light = omega (arith, b.few);
+      some = lit≤ tt;
+      most = lit≤ tt;
+    };
+    schedule = λ k d below. absurd (omega (arith, below));
+    rows = b.names;
+  }
+
+document-built : (root : Members) (S : Scenario) → scenario_in root ≡ Some S → IsBuilt S
 unfolding scenario_in
 document-built root S e =
     let chain = (if_some (has_only (codes "beans" ∷ codes "methods" ∷ codes "clients" ∷ []) root) _ S e).1 in
@@ -148,9 +176,9 @@ document-built root S e =
     let (table, there, stated) = and_then_some (method_in beans) (the_table_at (codes "methods") root) method read in
     let this : Some (one_call beans method) ≡ Some S = (if_some _ (Some (one_call beans method)) S same).1 in
     let scenario : one_call beans method ≡ S = cc in
-    subst IsOneCall scenario (one-built beans method (method-built beans table method stated))
+    subst IsBuilt scenario (one-built beans method (method-built beans table method stated))
 
-from_document : (o : Option Members) (S : Scenario) → scenario_of_document o ≡ Ok S → IsOneCall S
+from_document : (o : Option Members) (S : Scenario) → scenario_of_document o ≡ Ok S → IsBuilt S
 from_document None S e = cc
 from_document (Some root) S e = document-built root S (by (scenario_in root) e)
   where
@@ -159,6 +187,6 @@ from_document (Some root) S e = document-built root S (by (scenario_in root) e)
     by None f = cc
 
 -- each scenario that is read has one call
-pub built : (bytes : List ℕ) (S : Scenario) → scenario_of bytes ≡ Ok S → IsOneCall S
+pub built : (bytes : List ℕ) (S : Scenario) → scenario_of bytes ≡ Ok S → IsBuilt S
 unfolding scenario_of
 built bytes S e = from_document (document_of bytes) S e

@@ -1,5 +1,5 @@
 -- A source that was read to its end lost no more bytes than it had.
-use Rattle.std.proofs.Common.{◌≡◌, ◌≤◌, ℕ, List, [], length, Option, Some, None, sym, ◌∙◌, append-nil}
+use Rattle.std.proofs.Common.{◌≤◌, ℕ, List, length, Option, Some, None, sym, ◌∙◌, append-nil}
 use Rattle.stx_outside.specs.Streams.{LosesAll, LosesWithin}
 
 pub all_within : (limit : ℕ) (before now : Option (List ℕ)) (bytes : List ℕ) → LosesAll before now bytes → length bytes ≤ limit → LosesWithin limit before now

@@ -2,7 +2,7 @@ pub mod Names
 pub mod Items
 pub mod Statements
 pub mod Reading
-pub mod OneCall
+pub mod Built
 pub mod Jobs
 pub mod Tool
 pub mod ReportLines

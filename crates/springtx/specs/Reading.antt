@@ -9,11 +9,10 @@ use Rattle.toml.specs.Parse.{parse_document}
 use Rattle.stx_scenario.specs.declared.numbers.BeanNo.{BeanNo}
 use Rattle.stx_scenario.specs.declared.scenario.Scenario.{Scenario}
 use Rattle.stx_scenario.specs.declared.scenario.SyncMode.{SyncMode}
-use Rattle.stx_scenario.specs.declared.scenario.Propagation.{Propagation}
 use Rattle.stx_scenario.specs.declared.scenario.Bean.{Bean}
 use Rattle.stx_scenario.specs.declared.scenario.Method.{Method}
-use Rattle.stx_scenario.specs.declared.scenario.TxAttr.{TxAttr}
 use Rattle.stx_scenario.specs.BuiltIn.{built_in}
+use Rattle.stx_model.specs.Flat.{default_attribute}
 use Rattle.stx_model.specs.Lines.{method_name}
 use Rattle.springtx.specs.declared.fault.ReadFault.{ReadFault}
 use Rattle.springtx.specs.declared.reader.MethodDraft.{MethodDraft}
@@ -141,10 +140,6 @@ call_in table =
     else None
 
 -- ---- the scenario
-
--- an attribute by default (Spring: the defaults of @Transactional)
-abbrev pub default_attribute : TxAttr
-default_attribute = record { propagation = Propagation.Required; read_only = false; rules = [] }
 
 abbrev pub drafted_method : MethodDraft → Method
 drafted_method method = record { bean = method.bean; name = method.name; tx = Some default_attribute; body = method.draft.body }

@@ -4,6 +4,7 @@ use Rattle.std.specs.List.{list_any}
 use Rattle.stx_model.specs.declared.outcome.Report.{Report}
 use Rattle.stx_model.specs.declared.outcome.ToolEnd.{ToolEnd}
 use Rattle.stx_model.specs.Faithful.{Faithful}
+use Rattle.stx_model.specs.Played.{played}
 use Rattle.stx_model.specs.Report.{printed}
 use Rattle.stx_outside.specs.Streams.{LosesAll}
 use Rattle.springtx.specs.declared.answer.Answer.{Answer}
@@ -23,10 +24,12 @@ is_status status = list_any (λ s. s == status) (0 ∷ 2 ∷ 3 ∷ 4 ∷ 5 ∷ 6
 abbrev pub is_early : ℕ → Bool
 is_early status = list_any (λ s. s == status) (2 ∷ 3 ∷ 6 ∷ 7 ∷ [])
 
--- the answer to these bytes: the report of a faithful run of the scenario that they denote, or why they denote none
+-- the answer to these bytes: the report of a faithful run of the scenario that they denote, by its own schedule, or why
+-- they denote none
 abbrev pub IsAnswerTo : List ℕ → Answer → Type 0
 IsAnswerTo bytes (Answer.Played report text) =
     (scenario_of bytes ≡ Ok report.scenario) × Faithful report.scenario report.outcome × (text.items ≡ printed report.scenario report.outcome)
+    × (report.outcome ≡ played report.scenario report.scenario.schedule)
 IsAnswerTo bytes (Answer.Refused text) =
     (fault : ReadFault) × (scenario_of bytes ≡ Err fault) × (text.items ≡ refusal_text fault)
 
@@ -39,6 +42,7 @@ pub record IsPlayed (left_before left_now : Option (List ℕ)) (Wrote : List ℕ
   pub accepted : scenario_of bytes ≡ Ok report.scenario
   pub reported : end.report ≡ Some report
   pub faithful : Faithful report.scenario report.outcome
+  pub outcome : report.outcome ≡ played report.scenario report.scenario.schedule
   pub written : Wrote (printed report.scenario report.outcome)
 
 -- the source was read to its end; the bytes denote no scenario

@@ -4,16 +4,18 @@ ghost use Rattle.stx_model.specs.Faithful.{Faithful};
 ghost use Rattle.stx_model.specs.Report.{printed};
 ghost use Rattle.stx_model.specs.Stores.{committed_rows};
 ghost use Rattle.springtx.specs.Jobs.{refusal_text as text_of};
-ghost use Rattle.springtx.specs.OneCall.{IsOneCall};
+ghost use Rattle.stx_model.specs.Played.{played as played_of};
+ghost use Rattle.springtx.specs.Built.{IsBuilt};
 ghost use Rattle.springtx.specs.ReportRows.{values_from};
 ghost use Rattle.springtx.specs.Tool.{IsAnswerTo};
 
 use crate::fault::ReadFault;
-use crate::play::play;
 use crate::reader::read_scenario;
 use crate::report::print;
 use std::alloc::Global;
+use stx_client::Setup;
 use stx_model::{Report, StoreEntry};
+use stx_play::play;
 use stx_scenario::{NoMemory, RowNo, Scenario};
 use stx_store::row_after;
 
@@ -43,16 +45,19 @@ pub fn answer_to(alloc: Global, bytes: &[u8]) -> Result<Answer, NoMemory>
     }
 }
 
-/// Plays a scenario with one call, and makes its report's text.
+/// Plays a scenario by its own schedule, and makes its report's text.
 fn played(alloc: Global, scenario: Scenario) -> Result<(Report, Vec<u8>), NoMemory>
-    requires { IsOneCall scenario }
+    requires { IsBuilt scenario }
     ensures scenario { IfOk result (λ played. played.0.scenario ≡ scenario) }
+    ensures outcome { IfOk result (λ played. played.0.outcome ≡ played_of scenario scenario.schedule) }
     ensures faithful { IfOk result (λ played. Faithful scenario played.0.outcome) }
     ensures text { IfOk result (λ played. played.1.items ≡ printed scenario played.0.outcome) }
 {
-    let outcome = play(alloc, &scenario)?;
-    let values = last_values(alloc, &scenario, outcome.store.as_slice())?;
-    let text = print(alloc, &scenario, &outcome, &values)?;
+    let setup = Setup::new(alloc, scenario)?;
+    let outcome = play(alloc, &setup, setup.scenario.schedule.as_slice())?;
+    let values = last_values(alloc, &setup.scenario, outcome.store.as_slice())?;
+    let text = print(alloc, &setup.scenario, &outcome, &values)?;
+    let Setup { scenario } = setup;
     let report = Report { scenario, outcome };
     Ok((report, text))
 }

@@ -4,7 +4,6 @@
 mod answer;
 mod fault;
 mod names;
-mod play;
 mod reader;
 mod report;
 mod statements;
