@@ -1,12 +1,12 @@
 -- Laws of ways and of longest ways over any graph: what is above, how longest ways settle, and why they are short where
 -- no method leads to itself.
-use Rattle.std.proofs.Common.{◌≡◌, ℕ, zero, suc, ◌+◌, ◌<◌, ◌≤◌, true, false, ◌==◌, List, [], ◌∷◌, length, map, refl, sym, ◌∙◌, ap, subst, ⊎_elim, arith, eq-eqb, eqb-true}
+use Rattle.std.proofs.Common.{◌≡◌, ℕ, zero, suc, ◌+◌, ◌<◌, ◌≤◌, true, false, ◌==◌, List, [], ◌∷◌, length, map, refl, sym, ◌∙◌, ap, subst, ⊎_elim, arith, eq-eqb, eqb-true, ◌⊎◌, inl, inr}
 use Rattle.std.specs.List.{list_any, AllByRecursion, IsDistinct}
-use Rattle.std.proofs.lemmas.Bool.{or_cases, or_left, or_right, false_from_ne_true, false≢true}
+use Rattle.std.proofs.lemmas.Bool.{cases_lt, or_cases, or_left, or_right, false_from_ne_true, false≢true}
 use Rattle.std.proofs.lemmas.Map.Keys.{IsDistinct-cons}
 use Rattle.std.proofs.lemmas.Map.Steps.{length-le_from_distinct_below}
 use Rattle.stx_scenario.specs.declared.numbers.MethodNo.{MethodNo}
-use Rattle.stx_model.specs.Weight.{has_method, Next, LeadsTo, Way, IsOnCycle, above, longest}
+use Rattle.stx_model.specs.Weight.{has_method, Next, LeadsTo, Way, IsOnCycle, above, longest, IsLongestWay}
 
 abbrev pub numbered : ℕ → MethodNo
 numbered n = record { 0 = n }
@@ -174,3 +174,44 @@ pub longest_all :
     → longest next count m ≡ above (map (longest next count) (next m))
 unfolding longest
 longest_all next count m graph below = sym (longest_stays next count m (shallow next count m graph below))
+
+-- ---- the longest way is one, and none is longer
+
+above_at : (f : MethodNo → ℕ) (ms : List MethodNo)
+    → (above (map f ms) ≡ 0) ⊎ ((n : MethodNo) × (has_method ms n ≡ true) × (above (map f ms) ≡ suc (f n)))
+above_at f [] = inl refl
+above_at f (n ∷ ms) = elim (cases_lt (f n + 1) (above (map f ms))) [
+  | inl less ↦ elim (above_at f ms) [
+    | inl none ↦ absurd (omega (arith, less, none))
+    | inr at ↦ inr (at.0, or_right _ _ at.1, omega (arith, less, at.2))
+  ]
+  | inr most ↦ inr (n, has_itself n ms, omega (arith, most))
+]
+
+pub way_of_longest : (next : Next) (k : ℕ) (m : MethodNo) → (n : MethodNo) × Way next (longest next k m) m n
+unfolding longest
+way_of_longest next zero m = (m, refl)
+way_of_longest next (suc k) m = elim (above_at (longest next k) (next m)) [
+  | inl none ↦ (m, subst (λ steps. Way next steps m m) (sym none) refl)
+  | inr at ↦
+      let rest = way_of_longest next k at.0 in
+      (rest.0, subst (λ steps. Way next steps m rest.0) (sym at.2) (at.0, at.1, rest.1))
+]
+
+way_within : (next : Next) (steps k : ℕ) (m n : MethodNo) → steps ≤ k → Way next steps m n → steps ≤ longest next k m
+unfolding longest
+way_within next zero k m n few way = omega arith
+way_within next (suc steps) zero m n few way = absurd (omega arith)
+way_within next (suc steps) (suc k) m n few way =
+    let rest = way_within next steps k way.0 n (omega arith) way.2 in
+    let more = above_more (longest next k) (next m) way.0 way.1 in
+    omega (arith, rest, more)
+
+pub longest_way : (next : Next) (count : ℕ) (m : MethodNo) → IsAcyclic next count → m.0 < count → IsLongestWay next m (longest next count m)
+longest_way next count m graph below = record {
+  is_way = way_of_longest next count m;
+  none_longer = λ steps n way.
+      let settled = longest_settled next steps count (count + steps) m refl (shallow next count m graph below) in
+      let within = way_within next steps (count + steps) m n (omega arith) way in
+      omega (arith, settled, within);
+}

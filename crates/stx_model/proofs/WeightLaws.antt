@@ -14,7 +14,8 @@ use Rattle.stx_scenario.specs.declared.scenario.SyncDecl.{SyncDecl}
 use Rattle.stx_scenario.specs.declared.scenario.Stmt.{Stmt}
 use Rattle.stx_model.specs.declared.cost.Cost.{Cost}
 use Rattle.stx_model.specs.Weight.{body_in, body_of, callbacks_in, callbacks_of, listeners_of, called, calls, led, leads, has_method, IsOnCycle, above, longest, rank, plus, total, one, callback_cost, callbacks_cost, listener_cost, statement_cost, body_cost, cost_within, cost, CallbackInRange, CallbacksInRange, StatementInRange, SyncInRange, InRange}
-use Rattle.stx_model.proofs.WayLaws.{same_method, has_itself, above_more, longest_settled, longest_all, shallow, IsAcyclic}
+use Rattle.stx_model.proofs.WayLaws.{same_method, has_itself, above_more, longest_settled, longest_all, longest_way, shallow, IsAcyclic}
+use Rattle.stx_model.specs.Laws.{RanksAreLongestWays}
 
 -- ---- what is in range
 
@@ -182,3 +183,12 @@ pub cost_is :
     → cost S m ≡ body_cost S (cost S) (body_of S m)
 unfolding cost_within
 cost_is S m graph below = sym (cost_stays S (length S.methods) m (shallow (leads S) (length S.methods) m graph below))
+
+pub ranks_are_longest_ways : RanksAreLongestWays
+ranks_are_longest_ways S range none m below =
+    let graph = acyclic_from S range none in
+    record {
+      is_longest = longest_way (leads S) (length S.methods) m graph below;
+      from_ranks = rank_is S m graph below;
+      from_costs = cost_is S m graph below;
+    }

@@ -1,6 +1,6 @@
 -- How methods lead to one another, and what they weigh: rank, size, registrations, weight.
 -- A method's number out of range has no statements, and a synchronisation's no bodies.
-use Rattle.std.specs.Prelude.{◌≡◌, ℕ, zero, suc, ◌+◌, ◌*◌, ◌<◌, ◌^◌, Bool, true, ◌==◌, List, [], ◌∷◌, ◌++◌, length, map, max, sum, Option, Some, None, slice_get}
+use Rattle.std.specs.Prelude.{◌≡◌, ◌≤◌, ℕ, zero, suc, ◌+◌, ◌*◌, ◌<◌, ◌^◌, Bool, true, ◌==◌, List, [], ◌∷◌, ◌++◌, length, map, max, sum, Option, Some, None, slice_get}
 use Rattle.std.specs.List.{All, filter, flat_map, list_any}
 use Rattle.stx_scenario.specs.declared.numbers.MethodNo.{MethodNo}
 use Rattle.stx_scenario.specs.declared.numbers.EventNo.{EventNo}
@@ -79,6 +79,11 @@ Way next (suc steps) m n = (through : MethodNo) × LeadsTo next m through × Way
 -- a method leads to itself in one or more steps
 abbrev pub IsOnCycle : Next → MethodNo → Type 0
 IsOnCycle next m = (steps : ℕ) × Way next (suc steps) m m
+
+-- a way of so many steps begins at a method, and none from there has more
+pub record IsLongestWay (next : Next) (m : MethodNo) (steps : ℕ) : Type 0 where
+  pub is_way : (n : MethodNo) × Way next steps m n
+  pub none_longer : (more : ℕ) (n : MethodNo) → Way next more m n → more ≤ steps
 
 -- ---- rank
 

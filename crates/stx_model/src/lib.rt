@@ -16,7 +16,7 @@ pub use cost::Cost;
 pub use history::{Access, Answer, PoolEntry, PoolNote, StoreEntry, StoreNote};
 pub use laws::{
     balanced, done_is_faithful, entries_within, gives_all_back, journal_is_serial, own_notes_fresh,
-    reads_in_order, reads_within, wants_proper,
+    ranks_are_longest_ways, reads_in_order, reads_within, wants_proper,
 };
 pub use line::{Label, Line};
 pub use manager::{Ending, Kind, Opening, Round};

@@ -1,4 +1,4 @@
-// The tokens carry their numbers, and the law can be called for.
+// The tokens carry their numbers, and the laws can be called for.
 use super::*;
 
 #[test]
@@ -13,6 +13,15 @@ fn tokens_carry_their_numbers(rt: HostRuntime) {
 }
 
 #[test]
-fn the_serial_law_is_there() {
+fn the_laws_can_be_called() {
     journal_is_serial();
+    reads_within();
+    entries_within();
+    reads_in_order();
+    own_notes_fresh();
+    wants_proper();
+    balanced();
+    gives_all_back();
+    done_is_faithful();
+    ranks_are_longest_ways();
 }

@@ -630,6 +630,8 @@ fn turn_by_turn(alloc: Global, setup: &Setup) -> Result<usize, NoMemory>
         return Err(NoMemory);
     }
     play.step(alloc, 0)?;
+    // A turn of a client that is done does nothing.
+    play.step(alloc, 0)?;
     if !play.all_done() {
         return Err(NoMemory);
     }
