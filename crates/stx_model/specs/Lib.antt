@@ -6,6 +6,7 @@ pub mod Legal
 pub mod Serial
 pub mod Attributes
 pub mod Classes
+pub mod Rules
 pub mod Weight
 pub mod Contexts
 pub mod Meanings

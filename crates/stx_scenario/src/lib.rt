@@ -2,6 +2,7 @@
 #![tactic(auto)]
 
 mod classes;
+mod copies;
 mod list;
 mod memory;
 mod name;

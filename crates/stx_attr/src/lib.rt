@@ -1,0 +1,9 @@
+//! Which transaction attribute each method has (`AbstractFallbackTransactionAttributeSource`).
+#![tactic(auto)]
+
+mod attributes;
+
+pub use attributes::Attributes;
+
+#[cfg(test)]
+mod tests;
