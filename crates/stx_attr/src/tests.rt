@@ -85,6 +85,13 @@ fn scenario(alloc: Global) -> Result<Scenario, NoMemory> {
     })
 }
 
+fn is(attribute: Option<&TxAttr>, wanted: &TxAttr) -> bool {
+    match attribute {
+        Some(attribute) => attribute == wanted,
+        None => false,
+    }
+}
+
 #[test]
 fn a_method_has_its_own_attribute_or_its_bean_s(rt: HostRuntime) -> Result<(), Fail> {
     let alloc = rt.alloc();
@@ -93,9 +100,9 @@ fn a_method_has_its_own_attribute_or_its_bean_s(rt: HostRuntime) -> Result<(), F
     drop(scenario);
     let own = own_attribute(alloc)?;
     let of_bean = attribute_of_bean(alloc);
-    assert_eq!(rt; attributes.of(MethodNo(0)), Some(&own));
-    assert_eq!(rt; attributes.of(MethodNo(1)), Some(&of_bean));
-    assert_eq!(rt; attributes.of(MethodNo(2)), Some(&own));
-    assert_eq!(rt; attributes.of(MethodNo(3)), None);
+    assert!(rt; is(attributes.of(MethodNo(0)), &own));
+    assert!(rt; is(attributes.of(MethodNo(1)), &of_bean));
+    assert!(rt; is(attributes.of(MethodNo(2)), &own));
+    assert!(rt; attributes.of(MethodNo(3)).is_none());
     Ok(())
 }

@@ -1,5 +1,5 @@
 // Decisions with rules by type and by pattern, and without a rule that matches.
-ghost use Rattle.std.specs.Prelude.{◌≡◌, ◌+◌, ◌×◌, ◌<◌, length, take, IfOk};
+ghost use Rattle.std.specs.Prelude.{◌≡◌, ◌+◌, ◌<◌, length, take, IfOk};
 ghost use Rattle.stx_scenario.specs.BuiltIn.{built_in};
 
 use super::*;
