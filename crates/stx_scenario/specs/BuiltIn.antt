@@ -1,5 +1,5 @@
 -- The built-in classes in the order of their numbers, each with its name and the number of the class above it.
-use Rattle.std.specs.Prelude.{ℕ, List, [], ◌∷◌, codes, map, Option, Some, None, slice_get}
+use Rattle.std.specs.Prelude.{ℕ, List, [], ◌∷◌, codes, Option, Some, None, slice_get}
 use Rattle.std.specs.Option.{option_map}
 use Rattle.stx_scenario.specs.declared.numbers.ClassNo.{ClassNo}
 use Rattle.stx_scenario.specs.declared.scenario.ClassDecl.{ClassDecl}
