@@ -1,8 +1,8 @@
 // The tree itself, made from the declarations of the classes.
 ghost use Rattle.std.specs.Prelude.{◌≡◌, ◌<◌, ◌^◌, length, take, IfOk, IfErr, OnOk};
 ghost use Rattle.stx_scenario.specs.BuiltIn.{built_in};
-ghost use Rattle.stx_model.specs.Classes.{parents_of, depth_in, is_below_in};
-ghost use Rattle.stx_classes.specs.Tree.{IsTree, IsDue};
+ghost use Rattle.stx_model.specs.Classes.{parents_of, depth_in, is_below_in, IsTree};
+ghost use Rattle.stx_classes.specs.Tree.{IsDue};
 
 use crate::ClassFault;
 use crate::steps::{first_own_ancestor, first_too_deep, first_unknown_parent, steps_between};

@@ -13,14 +13,13 @@ use Rattle.stx_model.specs.declared.line.Line.{Line}
 use Rattle.stx_model.specs.declared.manager.Ending.{Ending}
 use Rattle.stx_model.specs.Meanings.{Stops, state_of, stop_of, and_then, finally, ask}
 use Rattle.stx_model.specs.Weight.{body_of}
-use Rattle.stx_model.specs.Script.{script, tops, calls_of, body, access_row, ends, completes, gives_back, begins, fresh}
-use Rattle.stx_model.specs.Flat.{default_attribute}
+use Rattle.stx_model.specs.Script.{script, tops, calls_of, body, access_row, completes, gives_back, begins, fresh}
 use Rattle.stx_model.specs.Reads.{ReadsAll}
 use Rattle.stx_model.proofs.Growth.{Grows, finally_grows, and_then_grows, access_grows, nothing_grows, needed_grows, added_grows, body_grows, ends_grows, gives_back_grows, completes_grows, begins_grows, fresh_grows, tops_grows}
 use Rattle.stx_client.specs.declared.stage.Then.{Then}
 use Rattle.stx_client.specs.declared.stage.Stage.{Stage}
 use Rattle.stx_client.specs.declared.stage.At.{At}
-use Rattle.stx_client.specs.Machine.{state, context_of, want_of, does, means, run}
+use Rattle.stx_client.specs.Machine.{state, attribute_of, context_of, want_of, does, ending, means, run}
 use Rattle.stx_client.specs.Holding.{has_failed}
 use Rattle.stx_client.specs.View.{Playing, Keeps, StartsWith, script_of, is_reply}
 
@@ -32,13 +31,13 @@ does_grows t (Then.Need n) r = needed_grows n r
 does_grows t (Then.Add k n) r = added_grows t k n r
 
 means_grows : (S : Scenario) (stage : Stage) → Grows (means S stage)
-means_grows S (Stage.Opening m) st = fresh_grows S m default_attribute st
-means_grows S (Stage.Beginning m c) st = begins_grows S m default_attribute (Some c) st
+means_grows S (Stage.Opening m) st = fresh_grows S m (attribute_of S m) st
+means_grows S (Stage.Beginning m c) st = begins_grows S m (attribute_of S m) (Some c) st
 means_grows S (Stage.Accessing scope a d next) st =
-    finally_grows (and_then (access_row scope.tx a (does scope.tx d) st) (body (drop next (body_of S scope.method)))) (ends S scope.method scope.connection scope.tx) st.lines
+    finally_grows (and_then (access_row scope.tx a (does scope.tx d) st) (body (drop next (body_of S scope.method)))) (ending S scope) st.lines
     (and_then_grows (access_row scope.tx a (does scope.tx d) st) (body (drop next (body_of S scope.method))) st.lines
     (access_grows scope.tx a (does scope.tx d) (does_grows scope.tx d) st) (body_grows (drop next (body_of S scope.method))))
-    (ends_grows S scope.method scope.connection scope.tx)
+    (ends_grows S scope.method (attribute_of S scope.method) scope.connection scope.tx)
 means_grows S (Stage.Completing scope e x) st = completes_grows scope.method scope.connection scope.tx e x st
 means_grows S (Stage.GivingBack scope x) st = gives_back_grows scope.method scope.connection x st
 means_grows S Stage.Done st = ([], sym (append-nil st.lines))

@@ -1,7 +1,7 @@
 -- Steps of a machine: what the script says at a statement, at an answer, and at a call.
 use Rattle.std.proofs.Common.{◌⊎◌, inl, inr, get_or, ◌≡◌, ℕ, zero, suc, ◌+◌, ◌<◌, ◌≤◌, Bool, true, false, List, [], ◌∷◌, ◌++◌, drop, length, Option, Some, None, refl, sym, ap, ◌∙◌, subst, arith, add-one}
 use Rattle.std.specs.Prelude.{slice_get, unwrap_or, nat_lt}
-use Rattle.std.specs.Option.{option_and_then, option_or}
+use Rattle.std.specs.Option.{option_and_then}
 use Rattle.std.specs.List.{list_all}
 use Rattle.std.proofs.lemmas.Bool.{and_parts, ltb-true}
 use Rattle.std.proofs.lemmas.Option.{slice_get_cases, slice_get_within}
@@ -10,22 +10,22 @@ use Rattle.stx_scenario.specs.declared.numbers.MethodNo.{MethodNo}
 use Rattle.stx_scenario.specs.declared.scenario.Scenario.{Scenario}
 use Rattle.stx_scenario.specs.declared.scenario.Method.{Method}
 use Rattle.stx_scenario.specs.declared.scenario.Stmt.{Stmt}
-use Rattle.stx_scenario.specs.declared.scenario.Propagation.{Propagation}
+use Rattle.stx_scenario.specs.declared.scenario.TxAttr.{TxAttr}
 use Rattle.stx_model.specs.declared.call.Want.{Want}
 use Rattle.stx_model.specs.declared.history.Access.{Access}
 use Rattle.stx_model.specs.declared.history.PoolNote.{PoolNote}
 use Rattle.stx_model.specs.declared.history.StoreNote.{StoreNote}
 use Rattle.stx_model.specs.declared.line.Line.{Line}
-use Rattle.stx_model.specs.Attributes.{attribute}
+use Rattle.stx_model.specs.Attributes.{attribute, method_attribute}
 use Rattle.stx_model.specs.Contexts.{bare}
 use Rattle.stx_model.specs.Meanings.{State, Stops, Meaning, and_then, finally, say}
 use Rattle.stx_model.specs.Weight.{body_in, body_of}
-use Rattle.stx_model.specs.Script.{body, statement, statement_in, access_row, throws, ends, fresh, intercepted, invoke, tops, calls_of}
-use Rattle.stx_model.specs.Flat.{IsFlat, default_attribute, is_flat}
+use Rattle.stx_model.specs.Script.{body, statement, statement_in, access_row, throws, fresh, opening_of, intercepted, invoke, tops, calls_of}
+use Rattle.stx_model.specs.Flat.{IsFlat, IsFlatAttribute, HasFlatAttribute, default_attribute, is_flat}
 use Rattle.stx_client.specs.declared.stage.Scope.{Scope}
 use Rattle.stx_client.specs.declared.stage.Then.{Then}
 use Rattle.stx_client.specs.declared.stage.Stage.{Stage}
-use Rattle.stx_client.specs.Machine.{state, scope_context, access_in, does, ends_with, goes_on, means, tops_from, later_calls}
+use Rattle.stx_client.specs.Machine.{state, attribute_of, call_line, scope_context, access_in, does, ending, ends_with, goes_on, means, tops_from, later_calls}
 
 -- ---- lists by place
 
@@ -61,20 +61,38 @@ module _ (S : Scenario) (m : MethodNo) (method : Method) (there : slice_get S.me
   pub body_is : body_of S m ≡ method.body
   body_is = ap body_in there
 
-  pub attribute_is : IsFlat S → attribute S m ≡ Some default_attribute
-  attribute_is flat =
-      ap (option_and_then (λ method. option_or method.tx (option_and_then (λ bean. bean.tx) (slice_get S.beans method.bean.0)))) there
-      ∙ ap (λ tx. option_or tx (option_and_then (λ bean. bean.tx) (slice_get S.beans method.bean.0))) (flat.methods m.0 method there).tx
+  has_attribute : IsFlat S → HasFlatAttribute (attribute S m)
+  has_attribute flat = subst HasFlatAttribute (sym (ap (option_and_then (method_attribute S)) there)) (flat.methods m.0 method there).tx
 
-  pub flat_at : (place : ℕ) (s : Stmt) → IsFlat S → slice_get method.body place ≡ Some s → is_flat s ≡ true
-  flat_at place s flat here = all_at is_flat method.body place s (flat.methods m.0 method there).body here
+  pub flat_at : (place : ℕ) (s : Stmt) → IsFlat S → slice_get method.body place ≡ Some s → is_flat (length S.classes) s ≡ true
+  flat_at place s flat here = all_at (is_flat (length S.classes)) method.body place s (flat.methods m.0 method there).body here
 
   pub few_statements : IsFlat S → length method.body ≤ 256
   few_statements flat = (flat.methods m.0 method there).few
 
-pub known : (x : ClassNo) (s : Stmt) → s ≡ Stmt.Throw x → is_flat s ≡ true → x.0 < 17
-known x s is flat =
-    ltb-true x.0 17 (subst (λ z. is_flat z ≡ true) is flat)
+pub known : (classes : ℕ) (x : ClassNo) (s : Stmt) → s ≡ Stmt.Throw x → is_flat classes s ≡ true → x.0 < classes
+known classes x s is flat =
+    ltb-true x.0 classes (subst (λ z. is_flat classes z ≡ true) is flat)
+
+-- a method that there is has an attribute with propagation required
+pub record HasAttribute (S : Scenario) (m : MethodNo) : Type 0 where
+  pub attribute : attribute S m ≡ Some (attribute_of S m)
+  pub flat : IsFlatAttribute (attribute_of S m)
+
+found : (o : Option TxAttr) → HasFlatAttribute o → (o ≡ Some (unwrap_or o default_attribute)) × IsFlatAttribute (unwrap_or o default_attribute)
+found (Some a) is = (refl, is)
+found None is = elim is [ ]
+
+pub attribute_at : (S : Scenario) (m : MethodNo) → IsFlat S → m.0 < length S.methods → HasAttribute S m
+unfolding attribute_of
+attribute_at S m flat is_method = either (slice_get_cases S.methods m.0).1
+  where
+    either : ((x : Method) × (m.0 < length S.methods) × (slice_get S.methods m.0 ≡ Some x) × (get_or S.methods m.0 x ≡ x)) ⊎ ((length S.methods ≤ m.0) × (slice_get S.methods m.0 ≡ None))
+        → HasAttribute S m
+    either (inl (method, below, there, same)) =
+        let both = found (attribute S m) (has_attribute S m method there flat) in
+        record { attribute = both.0; flat = both.1 }
+    either (inr (past, none)) = absurd (omega (arith, past, is_method))
 
 -- ---- the statement at a place
 
@@ -98,7 +116,7 @@ on_row t (Stmt.Register y) a d st is = cc
 
 module _ (S : Scenario) (scope : Scope) (place : ℕ) (method : Method) (there : slice_get S.methods scope.method.0 ≡ Some method) where
   abbrev end : Option ClassNo → Meaning
-  end = ends S scope.method scope.connection scope.tx
+  end = ending S scope
 
   pub no_statement : slice_get method.body place ≡ None → (st : State) → goes_on S scope place st ≡ end None st
   unfolding body
@@ -149,20 +167,15 @@ module _ (S : Scenario) (n top : ℕ) (calls : List MethodNo) (there : slice_get
         let few = (flat.clients n calls there).few in
         omega (arith, within, few)
 
-    default : attribute S m ≡ Some default_attribute
-    default = either (slice_get_cases S.methods m.0).1
-      where
-        either : ((x : Method) × (m.0 < length S.methods) × (slice_get S.methods m.0 ≡ Some x) × (get_or S.methods m.0 x ≡ x)) ⊎ ((length S.methods ≤ m.0) × (slice_get S.methods m.0 ≡ None))
-            → attribute S m ≡ Some default_attribute
-        either (inl (method, below, found, same)) = attribute_is S m method found flat
-        either (inr (past, none)) = absurd (omega (arith, past, is_method))
-
     pub one_call : (lines : List Line) (pool : List PoolNote) (store : List StoreNote)
         → tops_from S n top (state lines bare pool store)
-        ≡ later_calls S n top (fresh S m default_attribute (state ((lines ++ Line.Top top ∷ []) ++ Line.Call m Propagation.Required false ∷ []) bare pool store))
+        ≡ later_calls S n top (fresh S m (attribute_of S m) (state ((lines ++ Line.Top top ∷ []) ++ call_line S m ∷ []) bare pool store))
     unfolding tops invoke
     one_call lines pool store =
         let st = state lines bare pool store in
+        let has = attribute_at S m flat is_method in
         let split = calls_are ∙ drop_at calls top m here ∙ ap (λ cs. m ∷ cs) (ap (λ o. drop (top + 1) (unwrap_or o [])) (sym there)) in
+        let called : State = say (call_line S m) (say (Line.Top top) st) in
         ap (λ cs. tops S top cs st) split
-        ∙ ap (λ a. finally (intercepted S m a (say (Line.Top top) st)) (λ _. tops S (top + 1) (drop (top + 1) (calls_of S n)))) default
+        ∙ ap (λ a. finally (intercepted S m a (say (Line.Top top) st)) (λ _. tops S (top + 1) (drop (top + 1) (calls_of S n)))) has.attribute
+        ∙ ap (λ p. finally (opening_of S m (attribute_of S m) p called) (λ _. tops S (top + 1) (drop (top + 1) (calls_of S n)))) has.flat.required

@@ -15,12 +15,11 @@ use Rattle.stx_model.specs.declared.manager.Ending.{Ending}
 use Rattle.stx_model.specs.Contexts.{Context, bare}
 use Rattle.stx_model.specs.Meanings.{State, Result, Breaks, Meaning, Note, FromPool, FromStore, unread, hear, heard, answered, is_answer, pool_answers, store_answers, store_line, on_access, ask}
 use Rattle.stx_model.specs.Script.{unless_busy, access_row, leaves, gives_back, ending_call, completes, opened, begins, fresh}
-use Rattle.stx_model.specs.Flat.{default_attribute}
 use Rattle.stx_client.specs.declared.stage.Scope.{Scope}
 use Rattle.stx_client.specs.declared.stage.Then.{Then}
 use Rattle.stx_client.specs.declared.stage.Stage.{Stage}
 use Rattle.stx_client.specs.declared.stage.At.{At}
-use Rattle.stx_client.specs.Machine.{state, scope_context, context_of, want_of, does, means, hears, rest_of_body, later_calls, run, IsIn, Comes, Runs, Opens, HearsPool}
+use Rattle.stx_client.specs.Machine.{state, attribute_of, scope_context, context_of, want_of, does, means, hears, rest_of_body, later_calls, run, IsIn, Comes, Runs, Opens, HearsPool}
 
 -- ---- asking
 
@@ -95,7 +94,7 @@ module _ (S : Scenario) (n : ℕ) (at : At) (before after : List Line) where
       → HearsPool S n note at before (record { top = at.top; stage = Stage.Beginning m c }) after
   hears_taken note m c stage is said pool store =
       (λ i. run S n (record { top = at.top; stage = stage i }) before (is i ∷ pool) store)
-      ∙ ap (later_calls S n at.top) (taken_next S m before bare pool store default_attribute c)
+      ∙ ap (later_calls S n at.top) (taken_next S m before bare pool store (attribute_of S m) c)
       ∙ ap (λ ls. run S n (record { top = at.top; stage = Stage.Beginning m c }) ls pool store) (sym said)
 
   pub hears_empty : (note : PoolNote) (m : MethodNo) (next : At) (last : List Line) → at.stage ≡ Stage.Opening m → note ≡ PoolNote.Empty
@@ -104,7 +103,7 @@ module _ (S : Scenario) (n : ℕ) (at : At) (before after : List Line) where
       → HearsPool S n note at before next last
   hears_empty note m next last stage is said goes pool store =
       (λ i. run S n (record { top = at.top; stage = stage i }) before (is i ∷ pool) store)
-      ∙ ap (later_calls S n at.top) (empty_next S m before bare pool store default_attribute)
+      ∙ ap (later_calls S n at.top) (empty_next S m before bare pool store (attribute_of S m))
       ∙ ap (λ ls. later_calls S n at.top (leaves m (Some CANNOT_CREATE_TRANSACTION_EXCEPTION) (state ls bare pool store))) (sym said)
       ∙ goes pool store
 
@@ -125,8 +124,8 @@ module _ (S : Scenario) (n : ℕ) (at : At) (before after : List Line) where
   hears_begun note m c t stage last was is said goes inside pool store =
       let scope : Scope = record { method = m; connection = c; tx = t } in
       (λ i. run S n (record { top = at.top; stage = was i }) before pool (is i ∷ store))
-      ∙ ap (later_calls S n at.top) (begun_next S m before bare pool store default_attribute c t
-      ∙ ap (λ ls. opened S m default_attribute c t (state ls bare pool store)) (sym said) ∙ goes pool store)
+      ∙ ap (later_calls S n at.top) (begun_next S m before bare pool store (attribute_of S m) c t
+      ∙ ap (λ ls. opened S m (attribute_of S m) c t (state ls bare pool store)) (sym said) ∙ goes pool store)
       ∙ within S n at.top scope stage last pool store inside
 
   pub hears_answer : (note : StoreNote) (scope : Scope) (a b : Access) (d : Then) (next t : ℕ) (r : Answer) (stage : Stage) (last : List Line)

@@ -1,9 +1,9 @@
 -- What is left of a client's script at each stage of its machine.
-use Rattle.std.specs.Prelude.{◌≡◌, ℕ, ◌+◌, ℤ, ◌+ℤ◌, if◌then◌else◌, ◌<◌, false, List, ◌∷◌, drop, length, Option, Some, None, ⊤}
+use Rattle.std.specs.Prelude.{◌≡◌, ℕ, ◌+◌, ℤ, ◌+ℤ◌, if◌then◌else◌, ◌<◌, false, List, ◌∷◌, drop, length, Option, Some, None, unwrap_or, ⊤}
 use Rattle.stx_scenario.specs.declared.numbers.ClassNo.{ClassNo}
 use Rattle.stx_scenario.specs.declared.numbers.MethodNo.{MethodNo}
 use Rattle.stx_scenario.specs.declared.scenario.Scenario.{Scenario}
-use Rattle.stx_scenario.specs.BuiltIn.{built_in}
+use Rattle.stx_scenario.specs.declared.scenario.TxAttr.{TxAttr}
 use Rattle.stx_model.specs.declared.call.Want.{Want}
 use Rattle.stx_scenario.specs.declared.scenario.Stmt.{Stmt}
 use Rattle.stx_model.specs.declared.history.Access.{Access}
@@ -11,6 +11,7 @@ use Rattle.stx_model.specs.declared.history.Answer.{Answer}
 use Rattle.stx_model.specs.declared.history.PoolNote.{PoolNote}
 use Rattle.stx_model.specs.declared.history.StoreNote.{StoreNote}
 use Rattle.stx_model.specs.declared.line.Line.{Line}
+use Rattle.stx_model.specs.Attributes.{attribute}
 use Rattle.stx_model.specs.Contexts.{Context, bare}
 use Rattle.stx_model.specs.Meanings.{State, Result, Stops, Breaks, Meaning, and_then, finally}
 use Rattle.stx_model.specs.Weight.{body_of}
@@ -25,8 +26,15 @@ use Rattle.stx_client.specs.declared.stage.At.{At}
 abbrev pub state : List Line → Context → List PoolNote → List StoreNote → State
 state lines context pool store = record { lines = lines; context = context; marked = false; pool = pool; store = store }
 
+-- the attribute of a method that has one
+unfoldable pub attribute_of : Scenario → MethodNo → TxAttr
+attribute_of S m = unwrap_or (attribute S m) default_attribute
+
+abbrev pub call_line : Scenario → MethodNo → Line
+call_line S m = Line.Call m (attribute_of S m).propagation (attribute_of S m).read_only
+
 abbrev pub scope_context : Scenario → Scope → Context
-scope_context S scope = fresh_context scope.connection scope.tx false (owns_fresh S.settings.mode)
+scope_context S scope = fresh_context scope.connection scope.tx (attribute_of S scope.method).read_only (owns_fresh S.settings.mode)
 
 -- a scope's context stays until its connection is given back
 abbrev pub context_of : Scenario → Stage → Context
@@ -59,14 +67,17 @@ access_in (Stmt.Need k n) = Some (Access.Read k, Then.Need n)
 access_in (Stmt.Add k n) = Some (Access.Read k, Then.Add k n)
 access_in _ = None
 
+-- the end of the scope, after a body that threw this or nothing
+abbrev pub ending : Scenario → Scope → Option ClassNo → Meaning
+ending S scope x st = ends S scope.method (attribute_of S scope.method) scope.connection scope.tx x st
+
 -- the statements from this place on, and then the end of the scope
 abbrev pub rest_of_body : Scenario → Scope → ℕ → Result → Result
-rest_of_body S scope next r =
-    finally (and_then r (body (drop next (body_of S scope.method)))) (ends S scope.method scope.connection scope.tx)
+rest_of_body S scope next r = finally (and_then r (body (drop next (body_of S scope.method)))) (ending S scope)
 
 -- a piece of the body that ends it, and then the end of the scope
 abbrev pub ends_with : Scenario → Scope → Meaning → Meaning
-ends_with S scope piece st = finally (piece st) (ends S scope.method scope.connection scope.tx)
+ends_with S scope piece st = finally (piece st) (ending S scope)
 
 -- the statements from this place on
 abbrev pub goes_on : Scenario → Scope → ℕ → Meaning
@@ -81,14 +92,14 @@ abbrev pub hears : Scenario → Scope → Then → ℕ → Answer → Meaning
 hears S scope d next answer st = rest_of_body S scope next (unless_busy (does scope.tx d) answer st)
 
 -- the class is one that there is
-abbrev pub is_known : Option ClassNo → Type 0
-is_known None = ⊤
-is_known (Some x) = x.0 < length built_in
+abbrev pub is_known : Scenario → Option ClassNo → Type 0
+is_known S None = ⊤
+is_known S (Some x) = x.0 < length S.classes
 
 -- what is left of the call under way
 abbrev pub means : Scenario → Stage → Meaning
-means S (Stage.Opening m) st = fresh S m default_attribute st
-means S (Stage.Beginning m c) st = begins S m default_attribute (Some c) st
+means S (Stage.Opening m) st = fresh S m (attribute_of S m) st
+means S (Stage.Beginning m c) st = begins S m (attribute_of S m) (Some c) st
 means S (Stage.Accessing scope a d next) st = rest_of_body S scope next (access_row scope.tx a (does scope.tx d) st)
 means S (Stage.Completing scope e x) st = completes scope.method scope.connection scope.tx e x st
 means S (Stage.GivingBack scope x) st = gives_back scope.method scope.connection x st
@@ -142,7 +153,7 @@ Comes S scope meaning before stage after =
 abbrev pub Opens : Scenario → Scope → List Line → Stage → List Line → Type 0
 Opens S scope before stage after =
     (pool : List PoolNote) (store : List StoreNote)
-    → opened S scope.method default_attribute scope.connection scope.tx (state before bare pool store)
+    → opened S scope.method (attribute_of S scope.method) scope.connection scope.tx (state before bare pool store)
     ≡ means S stage (state after (scope_context S scope) pool store)
 
 -- this meaning is what is left of the script of client n, whatever notes are still to come

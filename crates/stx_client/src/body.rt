@@ -1,5 +1,5 @@
 // The statements of a body, each up to the access that it wants.
-ghost use Rattle.std.specs.Prelude.{◌≡◌, ◌≤◌, true, None};
+ghost use Rattle.std.specs.Prelude.{◌≡◌, ◌≤◌, ℕ, true, None};
 ghost use Rattle.stx_scenario.specs.declared.scenario.Stmt.{Stmt as StmtData};
 ghost use Rattle.stx_model.specs.declared.history.Access.{Access as AccessData};
 ghost use Rattle.stx_client.specs.declared.stage.Stage.{Stage as StageData};
@@ -9,28 +9,29 @@ ghost use Rattle.stx_model.specs.Script.{value_of as value_in};
 ghost use Rattle.stx_client.specs.Machine.{Comes, IsIn, IsMethod, access_in, goes_on, hears, sum_of};
 
 use crate::ending::{ended, thrown};
+use crate::setup::Setup;
 use crate::stage::{Scope, Stage, Then};
 use stx_model::{Access, Answer, Line};
 use stx_scenario::{
     ARITHMETIC_EXCEPTION, CANNOT_ACQUIRE_LOCK_EXCEPTION, ClassNo, ILLEGAL_STATE_EXCEPTION, Roomy,
-    RowNo, Scenario, Stmt,
+    RowNo, Stmt,
 };
 
 /// Goes on with the statement at this place, or ends the scope after the last.
 pub(crate) fn goes_to(
-    scenario: &Scenario,
+    setup: &Setup,
     scope: Scope,
     place: usize,
     lines: &mut Roomy<Line>,
 ) -> Stage
-    requires flat { IsFlat scenario.now }
-    requires method { IsMethod scenario.now scope.method }
+    requires flat { IsFlat setup.now.scenario }
+    requires method { IsMethod setup.now.scenario scope.method }
     requires room { 3 ≤ lines.old.spare }
-    ensures goes { Comes scenario.now scope (goes_on scenario.now scope place) lines.old.items result lines.new.items }
+    ensures goes { Comes setup.now.scenario scope (goes_on setup.now.scenario scope place) lines.old.items result lines.new.items }
     ensures inside { IsIn scope result }
 {
-    match scenario.method(scope.method).body.get(place) {
-        None => ended(scenario, scope, None, lines),
+    match setup.scenario.method(scope.method).body.get(place) {
+        None => ended(setup, scope, None, lines),
         Some(statement) => match access_of(*statement) {
             Some((access, then)) => Stage::Accessing {
                 scope,
@@ -38,7 +39,7 @@ pub(crate) fn goes_to(
                 then,
                 next: place + 1,
             },
-            None => thrown(scenario, scope, class_of(*statement), lines),
+            None => thrown(setup, scope, class_of(*statement), lines),
         },
     }
 }
@@ -59,7 +60,7 @@ fn access_of(statement: Stmt) -> Option<(Access, Then)>
 
 // The class that the statement throws.
 fn class_of(statement: Stmt) -> ClassNo
-    requires flat { is_flat statement ≡ true }
+    requires flat { (classes : ℕ) × (is_flat classes statement ≡ true) }
     requires other { access_in statement ≡ None }
     ensures { statement ≡ StmtData.Throw result }
 {
@@ -71,34 +72,34 @@ fn class_of(statement: Stmt) -> ClassNo
 
 /// Goes on after the answer to a statement's access.
 pub(crate) fn answered(
-    scenario: &Scenario,
+    setup: &Setup,
     scope: Scope,
     then: Then,
     next: usize,
     answer: Answer,
     lines: &mut Roomy<Line>,
 ) -> Stage
-    requires flat { IsFlat scenario.now }
-    requires method { IsMethod scenario.now scope.method }
+    requires flat { IsFlat setup.now.scenario }
+    requires method { IsMethod setup.now.scenario scope.method }
     requires room { 3 ≤ lines.old.spare }
-    ensures goes { Comes scenario.now scope (hears scenario.now scope then next answer) lines.old.items result lines.new.items }
+    ensures goes { Comes setup.now.scenario scope (hears setup.now.scenario scope then next answer) lines.old.items result lines.new.items }
     ensures inside { IsIn scope result }
 {
     if let Answer::Busy(_) = answer {
-        return thrown(scenario, scope, CANNOT_ACQUIRE_LOCK_EXCEPTION, lines);
+        return thrown(setup, scope, CANNOT_ACQUIRE_LOCK_EXCEPTION, lines);
     }
     match then {
-        Then::Nothing => goes_to(scenario, scope, next, lines),
+        Then::Nothing => goes_to(setup, scope, next, lines),
         Then::Need(least) => {
             if value_of(answer) < least {
-                thrown(scenario, scope, ILLEGAL_STATE_EXCEPTION, lines)
+                thrown(setup, scope, ILLEGAL_STATE_EXCEPTION, lines)
             } else {
-                goes_to(scenario, scope, next, lines)
+                goes_to(setup, scope, next, lines)
             }
         }
         Then::Add(row, more) => match summed(value_of(answer), more) {
             Some(sum) => writing(scope, row, sum, next),
-            None => thrown(scenario, scope, ARITHMETIC_EXCEPTION, lines),
+            None => thrown(setup, scope, ARITHMETIC_EXCEPTION, lines),
         },
     }
 }

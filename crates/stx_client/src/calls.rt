@@ -1,36 +1,33 @@
 // The calls of a client, one after the other.
-ghost use Rattle.std.specs.Prelude.{◌≤◌, ◌<◌, length};
+ghost use Rattle.std.specs.Prelude.{◌≡◌, ◌≤◌, ◌<◌, length};
 ghost use Rattle.stx_model.specs.Contexts.{bare};
 ghost use Rattle.stx_model.specs.Flat.{IsFlat};
 ghost use Rattle.stx_model.specs.Script.{tops, calls_of, leaves};
 ghost use Rattle.stx_client.specs.Holding.{IsBetween};
-ghost use Rattle.stx_client.specs.Machine.{Runs, IsSound, later_calls, tops_from};
+ghost use Rattle.stx_client.specs.Machine.{Runs, IsMethod, IsSound, attribute_of as attribute_in, call_line, later_calls, tops_from};
 
+use crate::setup::Setup;
 use crate::stage::{At, Stage};
 use stx_model::Line;
-use stx_scenario::{ClassNo, MethodNo, Propagation, Roomy, Scenario};
+use stx_scenario::{ClassNo, MethodNo, Roomy, TxAttr};
 
 /// Goes on with the client's call at this place, if there is one.
-pub(crate) fn call_at(scenario: &Scenario, number: u32, top: usize, lines: &mut Roomy<Line>) -> At
-    requires flat { IsFlat scenario.now }
-    requires client { number < length scenario.now.clients }
+pub(crate) fn call_at(setup: &Setup, number: u32, top: usize, lines: &mut Roomy<Line>) -> At
+    requires flat { IsFlat setup.now.scenario }
+    requires client { number < length setup.now.scenario.clients }
     requires room { 2 ≤ lines.old.spare }
-    ensures goes { Runs scenario.now number bare (tops_from scenario.now number top) lines.old.items result lines.new.items }
-    ensures there { IsSound scenario.now result.top result.stage }
+    ensures goes { Runs setup.now.scenario number bare (tops_from setup.now.scenario number top) lines.old.items result lines.new.items }
+    ensures there { IsSound setup.now.scenario result.top result.stage }
     ensures between { IsBetween result.stage }
 {
-    match scenario.calls(number).get(top) {
+    match setup.scenario.calls(number).get(top) {
         None => At {
             top,
             stage: Stage::Done,
         },
         Some(method) => {
             lines.push(Line::Top(top as u32));
-            lines.push(Line::Call {
-                method: *method,
-                propagation: Propagation::Required,
-                read_only: false,
-            });
+            lines.push(called(setup, *method));
             At {
                 top,
                 stage: Stage::Opening(*method),
@@ -39,23 +36,49 @@ pub(crate) fn call_at(scenario: &Scenario, number: u32, top: usize, lines: &mut 
     }
 }
 
+// The line of a call.
+fn called(setup: &Setup, method: MethodNo) -> Line
+    requires flat { IsFlat setup.now.scenario }
+    requires method { IsMethod setup.now.scenario method }
+    ensures { result ≡ call_line setup.now.scenario method }
+{
+    let attribute = attribute_of(setup, method);
+    Line::Call {
+        method,
+        propagation: attribute.propagation,
+        read_only: attribute.read_only,
+    }
+}
+
+/// The attribute of a method: its own, or its bean's.
+pub(crate) fn attribute_of(setup: &Setup, method: MethodNo) -> &TxAttr
+    requires flat { IsFlat setup.now.scenario }
+    requires method { IsMethod setup.now.scenario method }
+    ensures { result.now ≡ attribute_in setup.now.scenario method }
+{
+    match setup.attributes.of(method) {
+        Some(attribute) => attribute,
+        None => unreachable!(),
+    }
+}
+
 /// Leaves the call at this place, which threw this or nothing, and goes on with the next.
 pub(crate) fn leave(
-    scenario: &Scenario,
+    setup: &Setup,
     number: u32,
     top: usize,
     method: MethodNo,
     thrown: Option<ClassNo>,
     lines: &mut Roomy<Line>,
 ) -> At
-    requires flat { IsFlat scenario.now }
-    requires client { number < length scenario.now.clients }
+    requires flat { IsFlat setup.now.scenario }
+    requires client { number < length setup.now.scenario.clients }
     requires top { top < 64 }
     requires room { 3 ≤ lines.old.spare }
-    ensures goes { Runs scenario.now number bare (λ st. later_calls scenario.now number top (leaves method thrown st)) lines.old.items result lines.new.items }
-    ensures there { IsSound scenario.now result.top result.stage }
+    ensures goes { Runs setup.now.scenario number bare (λ st. later_calls setup.now.scenario number top (leaves method thrown st)) lines.old.items result lines.new.items }
+    ensures there { IsSound setup.now.scenario result.top result.stage }
     ensures between { IsBetween result.stage }
 {
     lines.push(Line::Leave { method, thrown });
-    call_at(scenario, number, top + 1, lines)
+    call_at(setup, number, top + 1, lines)
 }

@@ -66,7 +66,7 @@ impl<'a> Client<'a> {
         lines.reserve(MOST_LINES)?;
         pool.reserve(1)?;
         store.reserve(1)?;
-        let at = call_at(&setup.scenario, number, 0, &mut lines);
+        let at = call_at(setup, number, 0, &mut lines);
         Ok(Client {
             setup,
             number,
@@ -160,13 +160,7 @@ impl<'a> Client<'a> {
             self.at.stage = Stage::Failed;
             return Err(fault);
         }
-        self.at = hear_pool(
-            &self.setup.scenario,
-            self.number,
-            self.at,
-            note,
-            &mut self.lines,
-        );
+        self.at = hear_pool(self.setup, self.number, self.at, note, &mut self.lines);
         Ok(())
     }
 
@@ -185,7 +179,7 @@ impl<'a> Client<'a> {
             self.at.stage = Stage::Failed;
             return Err(fault);
         }
-        self.at = hear_store(&self.setup.scenario, self.at, note, &mut self.lines);
+        self.at = hear_store(self.setup, self.at, note, &mut self.lines);
         Ok(())
     }
 }

@@ -1,46 +1,52 @@
 // The end of a scope: what the rules decide, and the lines up to the store's call.
 ghost use Rattle.std.specs.Prelude.{◌≡◌, ◌≤◌, ◌<◌, length};
-ghost use Rattle.stx_scenario.specs.BuiltIn.{built_in};
-ghost use Rattle.stx_model.specs.Classes.{rolls_back_by_default};
 ghost use Rattle.stx_model.specs.Meanings.{say};
-ghost use Rattle.stx_model.specs.Script.{ends, throws};
+ghost use Rattle.stx_model.specs.Rules.{winner as winner_of, rolls_back};
+ghost use Rattle.stx_model.specs.Script.{throws};
 ghost use Rattle.stx_model.specs.Flat.{IsFlat};
-ghost use Rattle.stx_client.specs.Machine.{Comes, IsIn, ends_with, is_known};
+ghost use Rattle.stx_client.specs.Machine.{Comes, IsIn, IsMethod, attribute_of as attribute_in, ending, ends_with, is_known};
 
+use crate::calls::attribute_of;
+use crate::setup::Setup;
 use crate::stage::{Scope, Stage};
 use stx_model::{Ending, Line};
-use stx_scenario::{ClassNo, EXCEPTION, Roomy, Scenario, THROWABLE};
+use stx_rules::{Decision, decide};
+use stx_scenario::{ClassNo, MethodNo, Roomy};
 
-/// Whether a built-in class rolls back where there is no rule: all do that are `RuntimeException`, `Error` or below
-/// one of them (`DefaultTransactionAttribute.rollbackOn`), and these are all but the two above.
-fn rolls_back(class: ClassNo) -> bool
-    requires { class.0 < length built_in }
-    ensures { result ≡ rolls_back_by_default built_in class.0 }
+// What the rules of a method decide where it throws this (`TransactionAspectSupport.completeTransactionAfterThrowing`).
+fn decision(setup: &Setup, method: MethodNo, thrown: ClassNo) -> Decision
+    requires flat { IsFlat setup.now.scenario }
+    requires method { IsMethod setup.now.scenario method }
+    requires thrown { thrown.0 < length setup.now.scenario.classes }
+    ensures winner { result.winner ≡ winner_of setup.now.scenario.classes (attribute_in setup.now.scenario method).rules thrown.0 }
+    ensures rollback { result.rollback ≡ rolls_back setup.now.scenario.classes (attribute_in setup.now.scenario method).rules thrown.0 }
 {
-    class != THROWABLE && class != EXCEPTION
+    let rules = &attribute_of(setup, method).rules;
+    decide(&setup.classes, &setup.scenario, rules, thrown)
 }
 
 /// Ends a scope after its body threw this, or nothing.
 pub(crate) fn ended(
-    scenario: &Scenario,
+    setup: &Setup,
     scope: Scope,
     thrown: Option<ClassNo>,
     lines: &mut Roomy<Line>,
 ) -> Stage
-    requires flat { IsFlat scenario.now }
-    requires class { is_known thrown }
+    requires flat { IsFlat setup.now.scenario }
+    requires method { IsMethod setup.now.scenario scope.method }
+    requires class { is_known setup.now.scenario thrown }
     requires room { 2 ≤ lines.old.spare }
-    ensures goes { Comes scenario.now scope (ends scenario.now scope.method scope.connection scope.tx thrown) lines.old.items result lines.new.items }
+    ensures goes { Comes setup.now.scenario scope (ending setup.now.scenario scope thrown) lines.old.items result lines.new.items }
     ensures inside { IsIn scope result }
 {
     let mut ending = Ending::Commit;
     if let Some(class) = thrown {
-        let rollback = rolls_back(class);
+        let decision = decision(setup, scope.method, class);
         lines.push(Line::Rules {
-            rollback,
-            winner: None,
+            rollback: decision.rollback,
+            winner: decision.winner,
         });
-        if rollback {
+        if decision.rollback {
             ending = Ending::Rollback;
         }
     }
@@ -54,17 +60,18 @@ pub(crate) fn ended(
 
 /// Ends a scope in whose body an exception of this class arises.
 pub(crate) fn thrown(
-    scenario: &Scenario,
+    setup: &Setup,
     scope: Scope,
     class: ClassNo,
     lines: &mut Roomy<Line>,
 ) -> Stage
-    requires flat { IsFlat scenario.now }
-    requires class { class.0 < length built_in }
+    requires flat { IsFlat setup.now.scenario }
+    requires method { IsMethod setup.now.scenario scope.method }
+    requires class { class.0 < length setup.now.scenario.classes }
     requires room { 3 ≤ lines.old.spare }
-    ensures goes { Comes scenario.now scope (ends_with scenario.now scope (throws class)) lines.old.items result lines.new.items }
+    ensures goes { Comes setup.now.scenario scope (ends_with setup.now.scenario scope (throws class)) lines.old.items result lines.new.items }
     ensures inside { IsIn scope result }
 {
     lines.push(Line::Throw(class));
-    ended(scenario, scope, Some(class), lines)
+    ended(setup, scope, Some(class), lines)
 }

@@ -1,19 +1,42 @@
 // What all clients of a scenario share.
-ghost use Rattle.std.specs.Prelude.{◌≡◌, IfOk};
+ghost use Rattle.std.specs.Prelude.{◌≡◌, ◌<◌, ◌^◌, IfOk, length, take};
+ghost use Rattle.stx_scenario.specs.BuiltIn.{built_in};
+ghost use Rattle.stx_model.specs.Attributes.{attributes as attributes_of};
+ghost use Rattle.stx_model.specs.Classes.{IsTree, parents_of};
 
 use std::alloc::Global;
+use stx_attr::Attributes;
+use stx_classes::{ClassFault, ClassTree};
 use stx_scenario::{NoMemory, Scenario};
 
-/// A scenario, ready to be played.
+/// A scenario, ready to be played: with the tree of its classes and the attributes of its methods.
 #[derive(Drop)]
 pub struct Setup {
     pub scenario: Scenario,
+    pub classes: ClassTree,
+    pub attributes: Attributes,
+    pub ghost classes_are: { classes ≡ parents_of scenario.classes },
+    pub ghost attributes_are: { attributes ≡ attributes_of scenario },
 }
 
 impl Setup {
-    pub fn new(_alloc: Global, scenario: Scenario) -> Result<Setup, NoMemory>
+    /// The scenario with its tree and its attributes.
+    pub fn new(alloc: Global, scenario: Scenario) -> Result<Setup, NoMemory>
+        requires built_in { take (length built_in) scenario.classes ≡ built_in }
+        requires few_classes { length scenario.classes < 2 ^ 32 }
+        requires tree { IsTree scenario.classes }
         ensures { IfOk result (λ setup. setup.scenario ≡ scenario) }
     {
-        Ok(Setup { scenario })
+        let classes = match ClassTree::build(alloc, &scenario.classes) {
+            Ok(classes) => classes,
+            Err(ClassFault::NoMemory) => return Err(NoMemory),
+            Err(_) => unreachable!(),
+        };
+        let attributes = Attributes::resolve(alloc, &scenario)?;
+        Ok(Setup {
+            scenario,
+            classes,
+            attributes,
+        })
     }
 }

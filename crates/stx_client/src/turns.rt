@@ -8,25 +8,26 @@ ghost use Rattle.stx_client.specs.Machine.{IsSound, IsMethod, IsIn, HearsPool, H
 
 use crate::body::{answered, goes_to};
 use crate::calls::leave;
+use crate::setup::Setup;
 use crate::stage::{At, Scope, Stage};
 use stx_model::{Kind, Line, PoolNote, StoreNote};
-use stx_scenario::{CANNOT_CREATE_TRANSACTION_EXCEPTION, Roomy, Scenario, SyncMode};
+use stx_scenario::{CANNOT_CREATE_TRANSACTION_EXCEPTION, Roomy, SyncMode};
 
 /// Goes on after a note of the pool that answers the stage's want.
 pub(crate) fn hear_pool(
-    scenario: &Scenario,
+    setup: &Setup,
     number: u32,
     at: At,
     note: PoolNote,
     lines: &mut Roomy<Line>,
 ) -> At
-    requires flat { IsFlat scenario.now }
-    requires client { number < length scenario.now.clients }
-    requires sound { IsSound scenario.now at.top at.stage }
+    requires flat { IsFlat setup.now.scenario }
+    requires client { number < length setup.now.scenario.clients }
+    requires sound { IsSound setup.now.scenario at.top at.stage }
     requires answers { IsTrue (pool_answers (want_of at.stage) note) }
     requires room { 5 ≤ lines.old.spare }
-    ensures goes { HearsPool scenario.now number note at lines.old.items result lines.new.items }
-    ensures sound { IsSound scenario.now result.top result.stage }
+    ensures goes { HearsPool setup.now.scenario number note at lines.old.items result lines.new.items }
+    ensures sound { IsSound setup.now.scenario result.top result.stage }
     ensures tokens { Passes at.stage result.stage (with_taken note) nothing_new }
 {
     match (at.stage, note) {
@@ -41,11 +42,11 @@ pub(crate) fn hear_pool(
             lines.push(Line::Take(None));
             lines.push(Line::Throw(CANNOT_CREATE_TRANSACTION_EXCEPTION));
             let refused = Some(CANNOT_CREATE_TRANSACTION_EXCEPTION);
-            leave(scenario, number, at.top, method, refused, lines)
+            leave(setup, number, at.top, method, refused, lines)
         }
         (Stage::GivingBack { scope, thrown }, PoolNote::Given(connection)) => {
             lines.push(Line::Give(connection));
-            leave(scenario, number, at.top, scope.method, thrown, lines)
+            leave(setup, number, at.top, scope.method, thrown, lines)
         }
         _ => unreachable!(),
     }
@@ -53,24 +54,24 @@ pub(crate) fn hear_pool(
 
 /// Goes on after a note of the store that answers the stage's want.
 pub(crate) fn hear_store(
-    scenario: &Scenario,
+    setup: &Setup,
     at: At,
     note: StoreNote,
     lines: &mut Roomy<Line>,
 ) -> At
-    requires flat { IsFlat scenario.now }
-    requires sound { IsSound scenario.now at.top at.stage }
+    requires flat { IsFlat setup.now.scenario }
+    requires sound { IsSound setup.now.scenario at.top at.stage }
     requires answers { IsTrue (store_answers (want_of at.stage) note) }
     requires room { 5 ≤ lines.old.spare }
-    ensures goes { HearsStore scenario.now note at lines.old.items result lines.new.items }
-    ensures sound { IsSound scenario.now result.top result.stage }
+    ensures goes { HearsStore setup.now.scenario note at lines.old.items result lines.new.items }
+    ensures sound { IsSound setup.now.scenario result.top result.stage }
     ensures tokens { Passes at.stage result.stage nothing_new (with_begun note) }
 {
     let stage = match (at.stage, note) {
         (Stage::Beginning { method, connection }, StoreNote::Begin(tx)) => {
             lines.push(Line::Begin(tx));
             open(
-                scenario,
+                setup,
                 Scope {
                     method,
                     connection,
@@ -89,7 +90,7 @@ pub(crate) fn hear_store(
             StoreNote::Access { tx, access, answer },
         ) => {
             lines.push(Line::Row { tx, access, answer });
-            answered(scenario, scope, then, next, answer, lines)
+            answered(setup, scope, then, next, answer, lines)
         }
         (Stage::Completing { scope, thrown, .. }, StoreNote::Commit { tx, number }) => {
             lines.push(Line::Commit { tx, number });
@@ -105,18 +106,18 @@ pub(crate) fn hear_store(
 }
 
 // Opens a scope, and goes on with the first statement of its body.
-fn open(scenario: &Scenario, scope: Scope, lines: &mut Roomy<Line>) -> Stage
-    requires flat { IsFlat scenario.now }
-    requires method { IsMethod scenario.now scope.method }
+fn open(setup: &Setup, scope: Scope, lines: &mut Roomy<Line>) -> Stage
+    requires flat { IsFlat setup.now.scenario }
+    requires method { IsMethod setup.now.scenario scope.method }
     requires room { 4 ≤ lines.old.spare }
-    ensures goes { Opens scenario.now scope lines.old.items result lines.new.items }
+    ensures goes { Opens setup.now.scenario scope lines.old.items result lines.new.items }
     ensures inside { IsIn scope result }
 {
     lines.push(Line::Opened {
         kind: Kind::Fresh,
-        owns: owns_fresh(scenario.settings.mode),
+        owns: owns_fresh(setup.scenario.settings.mode),
     });
-    goes_to(scenario, scope, 0, lines)
+    goes_to(setup, scope, 0, lines)
 }
 
 /// Whether a fresh scope owns synchronisation.

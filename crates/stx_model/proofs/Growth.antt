@@ -8,7 +8,6 @@ use Rattle.stx_scenario.specs.declared.classes.TheConstants.{ILLEGAL_STATE_EXCEP
 use Rattle.stx_scenario.specs.declared.scenario.Scenario.{Scenario}
 use Rattle.stx_scenario.specs.declared.scenario.Stmt.{Stmt}
 use Rattle.stx_scenario.specs.declared.scenario.Propagation.{Propagation}
-use Rattle.stx_scenario.specs.declared.scenario.Rule.{Rule}
 use Rattle.stx_scenario.specs.declared.scenario.TxAttr.{TxAttr}
 use Rattle.stx_model.specs.declared.call.Want.{Want}
 use Rattle.stx_model.specs.declared.history.Access.{Access}
@@ -151,11 +150,11 @@ pub completes_grows : (m : MethodNo) (c t : ℕ) (e : Ending) (x : Option ClassN
 unfolding completes
 completes_grows m c t e x = ask_grows (ending_call t e) (λ _. gives_back m c x) (λ n. gives_back_grows m c x)
 
-pub ends_grows : (S : Scenario) (m : MethodNo) (c t : ℕ) (x : Option ClassNo) → Grows (ends S m c t x)
-ends_grows S m c t None st = say_grows (Line.End Ending.Commit) (completes m c t Ending.Commit None) (completes_grows m c t Ending.Commit None) st
-ends_grows S m c t (Some x) st =
-    more_yet _ (ruled S (Some x) st).lines _
-    (say_grows (Line.End (ending_after S (Some x))) (completes m c t (ending_after S (Some x)) (Some x)) (completes_grows m c t (ending_after S (Some x)) (Some x)) (ruled S (Some x) st))
+pub ends_grows : (S : Scenario) (m : MethodNo) (a : TxAttr) (c t : ℕ) (x : Option ClassNo) → Grows (ends S m a c t x)
+ends_grows S m a c t None st = say_grows (Line.End Ending.Commit) (completes m c t Ending.Commit None) (completes_grows m c t Ending.Commit None) st
+ends_grows S m a c t (Some x) st =
+    more_yet _ (ruled S a.rules (Some x) st).lines _
+    (say_grows (Line.End (ending_after S a.rules (Some x))) (completes m c t (ending_after S a.rules (Some x)) (Some x)) (completes_grows m c t (ending_after S a.rules (Some x)) (Some x)) (ruled S a.rules (Some x) st))
     (_, refl)
 
 opened_grows : (S : Scenario) (m : MethodNo) (a : TxAttr) (c t : ℕ) → Grows (opened S m a c t)
@@ -163,8 +162,8 @@ unfolding opened
 opened_grows S m a c t st =
     let owns = owns_fresh S.settings.mode in
     let open_state = say (Line.Opened Kind.Fresh owns) (with_context (fresh_context c t a.read_only owns) st) in
-    finally_grows (body (body_of S m) open_state) (ends S m c t) st.lines
-    (more_yet _ open_state.lines _ (body_grows (body_of S m) open_state) (_, refl)) (ends_grows S m c t)
+    finally_grows (body (body_of S m) open_state) (ends S m a c t) st.lines
+    (more_yet _ open_state.lines _ (body_grows (body_of S m) open_state) (_, refl)) (ends_grows S m a c t)
 
 on_begin_grows : (next : ℕ → Meaning) → ((t : ℕ) → Grows (next t)) → (n : Note) → Grows (on_begin next n)
 on_begin_grows next grows (FromStore (StoreNote.Begin t)) st = grows t st
@@ -193,15 +192,14 @@ pub fresh_grows : (S : Scenario) (m : MethodNo) (a : TxAttr) → Grows (fresh S 
 unfolding fresh
 fresh_grows S m a = ask_grows Want.Take (on_take (begins S m a)) (on_take_grows (begins S m a) (begins_grows S m a))
 
-opening_grows : (S : Scenario) (m : MethodNo) (a : TxAttr) (p : Propagation) (rules : List Rule) → Grows (opening_of S m a p rules)
-opening_grows S m a Propagation.Required [] st = fresh_grows S m a st
-opening_grows S m a Propagation.Required (_ ∷ _) st = same st.lines
-opening_grows S m a Propagation.Supports rules st = same st.lines
-opening_grows S m a Propagation.Mandatory rules st = same st.lines
-opening_grows S m a Propagation.RequiresNew rules st = same st.lines
-opening_grows S m a Propagation.NotSupported rules st = same st.lines
-opening_grows S m a Propagation.Never rules st = same st.lines
-opening_grows S m a Propagation.Nested rules st = same st.lines
+opening_grows : (S : Scenario) (m : MethodNo) (a : TxAttr) (p : Propagation) → Grows (opening_of S m a p)
+opening_grows S m a Propagation.Required st = fresh_grows S m a st
+opening_grows S m a Propagation.Supports st = same st.lines
+opening_grows S m a Propagation.Mandatory st = same st.lines
+opening_grows S m a Propagation.RequiresNew st = same st.lines
+opening_grows S m a Propagation.NotSupported st = same st.lines
+opening_grows S m a Propagation.Never st = same st.lines
+opening_grows S m a Propagation.Nested st = same st.lines
 
 invoke_grows : (S : Scenario) (m : MethodNo) → Grows (invoke S m)
 unfolding invoke
@@ -209,7 +207,7 @@ invoke_grows S m st = by_attribute (attribute S m)
   where
     by_attribute : (a : Option TxAttr) → Starts (state_of (intercepted S m a st)).lines st.lines
     by_attribute None = same st.lines
-    by_attribute (Some a) = say_grows (Line.Call m a.propagation a.read_only) (opening_of S m a a.propagation a.rules) (opening_grows S m a a.propagation a.rules) st
+    by_attribute (Some a) = say_grows (Line.Call m a.propagation a.read_only) (opening_of S m a a.propagation) (opening_grows S m a a.propagation) st
 
 pub tops_grows : (S : Scenario) (k : ℕ) (calls : List MethodNo) → Grows (tops S k calls)
 unfolding tops

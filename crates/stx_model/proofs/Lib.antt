@@ -23,4 +23,5 @@ pub mod SerialLaw
 pub mod SerialRows
 pub mod ReadsRows
 pub mod SerialCounterexample
-mod WorkedClasses
+pub mod WorkedClasses
+mod WorkedRules

@@ -14,7 +14,6 @@ use Rattle.stx_scenario.specs.declared.classes.TheConstants.{ILLEGAL_STATE_EXCEP
 use Rattle.stx_scenario.specs.declared.scenario.Scenario.{Scenario}
 use Rattle.stx_scenario.specs.declared.scenario.Stmt.{Stmt}
 use Rattle.stx_scenario.specs.declared.scenario.Propagation.{Propagation}
-use Rattle.stx_scenario.specs.declared.scenario.Rule.{Rule}
 use Rattle.stx_scenario.specs.declared.scenario.TxAttr.{TxAttr}
 use Rattle.stx_model.specs.declared.call.Want.{Want}
 use Rattle.stx_model.specs.declared.history.Access.{Access}
@@ -336,12 +335,12 @@ module _ (pool : List PoolNote) (store : List StoreNote) where
       by_ending Ending.Rollback = rolls_back
       by_ending Ending.Unexpected = rolls_back
 
-  ends_idle : (S : Scenario) (m : MethodNo) (c t : ℕ) (x : Option ClassNo) (st : State) → At pool store (c ∷ []) (t ∷ []) st → EndsWell Idle (ends S m c t x st)
-  ends_idle S m c t None st h =
+  ends_idle : (S : Scenario) (m : MethodNo) (a : TxAttr) (c t : ℕ) (x : Option ClassNo) (st : State) → At pool store (c ∷ []) (t ∷ []) st → EndsWell Idle (ends S m a c t x st)
+  ends_idle S m a c t None st h =
       completes_idle m c t Ending.Commit None (say (Line.End Ending.Commit) st) (said (Line.End Ending.Commit) (c ∷ []) (t ∷ []) st refl refl h)
-  ends_idle S m c t (Some x) st h =
-      completes_idle m c t (ending_after S (Some x)) (Some x) (say (Line.End (ending_after S (Some x))) (ruled S (Some x) st))
-      (said (Line.End (ending_after S (Some x))) (c ∷ []) (t ∷ []) (ruled S (Some x) st) refl refl (said _ (c ∷ []) (t ∷ []) st refl refl h))
+  ends_idle S m a c t (Some x) st h =
+      completes_idle m c t (ending_after S a.rules (Some x)) (Some x) (say (Line.End (ending_after S a.rules (Some x))) (ruled S a.rules (Some x) st))
+      (said (Line.End (ending_after S a.rules (Some x))) (c ∷ []) (t ∷ []) (ruled S a.rules (Some x) st) refl refl (said _ (c ∷ []) (t ∷ []) st refl refl h))
 
   opened_idle : (S : Scenario) (m : MethodNo) (a : TxAttr) (c t : ℕ) (st : State) → At pool store (c ∷ []) (t ∷ []) st → EndsWell Idle (opened S m a c t st)
   unfolding opened
@@ -349,9 +348,9 @@ module _ (pool : List PoolNote) (store : List StoreNote) where
       let owns = owns_fresh S.settings.mode in
       let context = fresh_context c t a.read_only owns in
       let open_state = say (Line.Opened Kind.Fresh owns) (with_context context st) in
-      finally_well (Inside (c ∷ []) t context) Idle (body (body_of S m) open_state) (ends S m c t)
+      finally_well (Inside (c ∷ []) t context) Idle (body (body_of S m) open_state) (ends S m a c t)
       (body_stays (c ∷ []) t context refl (body_of S m) open_state (said (Line.Opened Kind.Fresh owns) (c ∷ []) (t ∷ []) (with_context context st) refl refl h, refl))
-      (λ x after inside. ends_idle S m c t x after inside.0)
+      (λ x after inside. ends_idle S m a c t x after inside.0)
 
   begins_idle : (S : Scenario) (m : MethodNo) (a : TxAttr) (c : ℕ) (st : State) → At pool store (c ∷ []) [] st → EndsWell Idle (begins S m a (Some c) st)
   unfolding begins ask
@@ -387,10 +386,9 @@ module _ (pool : List PoolNote) (store : List StoreNote) where
       by_note PoolNote.Empty answers is = refused_idle S m a (hear (FromPool PoolNote.Empty) st) (hears_pool [] [] [] PoolNote.Empty st h is refl refl)
       by_note (PoolNote.Given c) answers is = absurd (false≢true answers)
 
-  opening_idle : (S : Scenario) (m : MethodNo) (a : TxAttr) (p : Propagation) (rules : List Rule) (st : State) → Idle st → EndsWell Idle (opening_of S m a p rules st)
-  opening_idle S m a Propagation.Required [] st h = fresh_idle S m a st h
-  opening_idle S m a Propagation.Required (_ ∷ _) st h = remains [] [] st h
-  opening_idle S m a _ rules st h = remains [] [] st h
+  opening_idle : (S : Scenario) (m : MethodNo) (a : TxAttr) (p : Propagation) (st : State) → Idle st → EndsWell Idle (opening_of S m a p st)
+  opening_idle S m a Propagation.Required st h = fresh_idle S m a st h
+  opening_idle S m a _ st h = remains [] [] st h
 
   invoke_idle : (S : Scenario) (m : MethodNo) (st : State) → Idle st → EndsWell Idle (invoke S m st)
   unfolding invoke
@@ -399,7 +397,7 @@ module _ (pool : List PoolNote) (store : List StoreNote) where
       by_attribute : (a : Option TxAttr) → EndsWell Idle (intercepted S m a st)
       by_attribute None = remains [] [] st h
       by_attribute (Some a) =
-          opening_idle S m a a.propagation a.rules (say (Line.Call m a.propagation a.read_only) st) (said (Line.Call m a.propagation a.read_only) [] [] st refl refl h)
+          opening_idle S m a a.propagation (say (Line.Call m a.propagation a.read_only) st) (said (Line.Call m a.propagation a.read_only) [] [] st refl refl h)
 
   -- a top-level call begins with all closed
   topped : (k : ℕ) (st : State) → Idle st → Idle (say (Line.Top k) st)

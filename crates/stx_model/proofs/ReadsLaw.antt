@@ -11,7 +11,6 @@ use Rattle.stx_scenario.specs.declared.classes.TheConstants.{ILLEGAL_STATE_EXCEP
 use Rattle.stx_scenario.specs.declared.scenario.Scenario.{Scenario}
 use Rattle.stx_scenario.specs.declared.scenario.Stmt.{Stmt}
 use Rattle.stx_scenario.specs.declared.scenario.Propagation.{Propagation}
-use Rattle.stx_scenario.specs.declared.scenario.Rule.{Rule}
 use Rattle.stx_scenario.specs.declared.scenario.TxAttr.{TxAttr}
 use Rattle.stx_model.specs.declared.call.Want.{Want}
 use Rattle.stx_model.specs.declared.history.Access.{Access}
@@ -147,16 +146,17 @@ completes_reads : (m : MethodNo) (c t : ℕ) (e : Ending) (x : Option ClassNo) �
 unfolding completes
 completes_reads m c t e x = ask_reads (ending_call t e) (λ _. gives_back m c x) 1 (λ n. gives_back_reads m c x)
 
-ends_reads : (S : Scenario) (m : MethodNo) (c t : ℕ) (x : Option ClassNo) → Reads 2 (ends S m c t x)
-ends_reads S m c t None st = completes_reads m c t Ending.Commit None (say (Line.End Ending.Commit) st)
-ends_reads S m c t (Some x) st = completes_reads m c t (ending_after S (Some x)) (Some x) (say (Line.End (ending_after S (Some x))) (ruled S (Some x) st))
+ends_reads : (S : Scenario) (m : MethodNo) (a : TxAttr) (c t : ℕ) (x : Option ClassNo) → Reads 2 (ends S m a c t x)
+ends_reads S m a c t None st = completes_reads m c t Ending.Commit None (say (Line.End Ending.Commit) st)
+ends_reads S m a c t (Some x) st =
+    completes_reads m c t (ending_after S a.rules (Some x)) (Some x) (say (Line.End (ending_after S a.rules (Some x))) (ruled S a.rules (Some x) st))
 
 opened_reads : (S : Scenario) (m : MethodNo) (a : TxAttr) (c t : ℕ) → Reads (2 * length (body_of S m) + 2) (opened S m a c t)
 unfolding opened
 opened_reads S m a c t st =
     let owns = owns_fresh S.settings.mode in
     let open_state = say (Line.Opened Kind.Fresh owns) (with_context (fresh_context c t a.read_only owns) st) in
-    finally_reads (body (body_of S m) open_state) (ends S m c t) (count_unread st) (2 * length (body_of S m)) 2 (body_reads (body_of S m) open_state) (ends_reads S m c t)
+    finally_reads (body (body_of S m) open_state) (ends S m a c t) (count_unread st) (2 * length (body_of S m)) 2 (body_reads (body_of S m) open_state) (ends_reads S m a c t)
 
 on_begin_reads : (k : ℕ) (next : ℕ → Meaning) → ((t : ℕ) → Reads k (next t)) → (n : Note) → Reads k (on_begin next n)
 on_begin_reads k next reads (FromStore (StoreNote.Begin t)) st = reads t st
@@ -181,10 +181,9 @@ fresh_reads S m a =
     ask_reads Want.Take (on_take (begins S m a)) (1 + (2 * length (body_of S m) + 2)) (on_take_reads (1 + (2 * length (body_of S m) + 2)) (begins S m a) (begins_reads S m a))
 
 -- a call takes, begins, ends and gives, and makes at most two accesses for each statement
-opening_reads : (S : Scenario) (m : MethodNo) (a : TxAttr) (p : Propagation) (rules : List Rule) → Reads (8 * call_weight S m) (opening_of S m a p rules)
-opening_reads S m a Propagation.Required [] = reads_more (1 + (1 + (2 * length (body_of S m) + 2))) (8 * call_weight S m) (fresh S m a) (omega arith) (fresh_reads S m a)
-opening_reads S m a Propagation.Required (_ ∷ _) = nothing_read (8 * call_weight S m)
-opening_reads S m a _ rules = nothing_read (8 * call_weight S m)
+opening_reads : (S : Scenario) (m : MethodNo) (a : TxAttr) (p : Propagation) → Reads (8 * call_weight S m) (opening_of S m a p)
+opening_reads S m a Propagation.Required = reads_more (1 + (1 + (2 * length (body_of S m) + 2))) (8 * call_weight S m) (fresh S m a) (omega arith) (fresh_reads S m a)
+opening_reads S m a _ = nothing_read (8 * call_weight S m)
 
 invoke_reads : (S : Scenario) (m : MethodNo) → Reads (8 * call_weight S m) (invoke S m)
 unfolding invoke
@@ -192,7 +191,7 @@ invoke_reads S m st = by_attribute (attribute S m)
   where
     by_attribute : (a : Option TxAttr) → count_unread st ≤ 8 * call_weight S m + count_unread (state_of (intercepted S m a st))
     by_attribute None = nothing_read (8 * call_weight S m) st
-    by_attribute (Some a) = opening_reads S m a a.propagation a.rules (say (Line.Call m a.propagation a.read_only) st)
+    by_attribute (Some a) = opening_reads S m a a.propagation (say (Line.Call m a.propagation a.read_only) st)
 
 tops_reads : (S : Scenario) (k : ℕ) (calls : List MethodNo) → Reads (8 * calls_weight S calls) (tops S k calls)
 unfolding tops

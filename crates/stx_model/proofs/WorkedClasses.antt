@@ -4,7 +4,7 @@ use Rattle.std.proofs.Common.{refl}
 use Rattle.stx_scenario.specs.declared.scenario.ClassDecl.{ClassDecl}
 use Rattle.stx_scenario.specs.declared.classes.TheConstants.{THROWABLE, EXCEPTION, ERROR, RUNTIME_EXCEPTION, CANNOT_ACQUIRE_LOCK_EXCEPTION}
 use Rattle.stx_scenario.specs.BuiltIn.{built_in, class_below}
-use Rattle.stx_model.specs.Classes.{parent_of, above, steps_within, steps_to, depth, is_below, rolls_back_by_default, first_unknown_parent, first_own_ancestor, first_too_deep}
+use Rattle.stx_model.specs.Classes.{parent_of, above, steps_within, steps_to, depth, is_below, rolls_back_by_default, first_unknown_parent, first_own_ancestor, IsTree}
 
 -- DataAccessException, NestedRuntimeException, RuntimeException, Exception and Throwable are above it
 lock_below_throwable : depth built_in CANNOT_ACQUIRE_LOCK_EXCEPTION.0 THROWABLE.0 ≡ Some 5
@@ -28,14 +28,8 @@ exception_commits = refl
 error_rolls_back : rolls_back_by_default built_in ERROR.0 ≡ true
 error_rolls_back = refl
 
-parents_are_known : first_unknown_parent built_in ≡ None
-parents_are_known = refl
-
-no_cycle : first_own_ancestor built_in ≡ None
-no_cycle = refl
-
-none_too_deep : first_too_deep built_in ≡ None
-none_too_deep = refl
+pub built_in_tree : IsTree built_in
+built_in_tree = record { parents = refl; acyclic = refl; near = refl }
 
 -- app.Soft below Exception is class 17, and app.Softer below it is class 18
 abbrev soft : List ClassDecl

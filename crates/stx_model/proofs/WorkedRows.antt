@@ -33,6 +33,7 @@ use Rattle.stx_model.specs.Stores.{committed_rows, store_reply, store_proper}
 use Rattle.stx_model.specs.Legal.{PoolLegal, StoreLegal}
 use Rattle.stx_model.specs.Meanings.{Stops, state_of, stop_of, ask}
 use Rattle.stx_model.specs.Contexts.{bare}
+use Rattle.stx_model.specs.Rules.{winner, rolls_back}
 use Rattle.stx_model.specs.Script.{script, tops, invoke, fresh, begins, opened, completes, gives_back, body, statement}
 use Rattle.stx_model.specs.Faithful.{Faithful, IsPlayedOut, IsBalanced, connection_bracket}
 use Rattle.stx_model.specs.Lines.{line_words}
@@ -250,7 +251,7 @@ writer_script = refl
 pub refused_script : script rivals 1 (PoolNote.Taken 2 ∷ PoolNote.Given 2 ∷ [])
     (StoreNote.Begin 2 ∷ StoreNote.Access 2 (Access.Read k) (Answer.Busy 1) ∷ StoreNote.Rollback 2 ∷ [])
     ≡ Stops Want.Done (record { lines = refused_trace; context = bare; marked = false; pool = []; store = [] })
-unfolding script tops invoke fresh begins opened completes gives_back body statement ask
+unfolding script tops invoke fresh begins opened completes gives_back body statement ask winner rolls_back
 refused_script = refl
 
 abbrev busy_outcome : Outcome

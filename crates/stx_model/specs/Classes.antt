@@ -1,6 +1,6 @@
 -- The tree of exception classes: steps from a class up to the classes above it, and which classes make no tree.
 -- (Spring: RollbackRuleAttribute.getDepth; DefaultTransactionAttribute.rollbackOn.)
-use Rattle.std.specs.Prelude.{ℕ, zero, suc, ◌+◌, Bool, false, not, ◌||◌, ◌==◌, nat_lt, nat_le, if◌then◌else◌, List, length, map, Option, Some, None, slice_get}
+use Rattle.std.specs.Prelude.{◌≡◌, ℕ, zero, suc, ◌+◌, Bool, false, not, ◌||◌, ◌==◌, nat_lt, nat_le, if◌then◌else◌, List, length, map, Option, Some, None, slice_get}
 use Rattle.std.specs.List.{find, range_with_len}
 use Rattle.std.specs.Option.{option_map, option_and_then, is_some}
 use Rattle.stx_scenario.specs.declared.numbers.ClassNo.{ClassNo}
@@ -116,3 +116,9 @@ first_own_ancestor classes = first_class (parents_of classes) (is_own_ancestor (
 
 abbrev pub first_too_deep : List ClassDecl → Option ℕ
 first_too_deep classes = first_class (parents_of classes) (is_too_deep (parents_of classes))
+
+-- the classes make a tree: each but Throwable has a parent in range, none is its own ancestor, and none is too deep
+pub record IsTree (classes : List ClassDecl) : Type 0 where
+  pub parents : first_unknown_parent classes ≡ None
+  pub acyclic : first_own_ancestor classes ≡ None
+  pub near : first_too_deep classes ≡ None

@@ -1,6 +1,6 @@
--- The scenarios that are played so far: methods that call no other, each with the default attribute, whose bodies
--- read, write, erase, add, need and throw.
-use Rattle.std.specs.Prelude.{◌≡◌, ℕ, ◌+◌, ◌≤◌, Bool, true, false, nat_lt, List, [], length, Some, slice_get}
+-- The scenarios that are played so far: methods that call no other, each with an attribute of propagation required,
+-- whose bodies read, write, erase, add, need and throw.
+use Rattle.std.specs.Prelude.{◌≡◌, ℕ, ◌+◌, ◌<◌, ◌≤◌, ◌^◌, Bool, true, false, nat_lt, List, [], length, take, Option, Some, None, slice_get}
 use Rattle.std.specs.List.{list_all, sum_by}
 use Rattle.stx_scenario.specs.declared.numbers.MethodNo.{MethodNo}
 use Rattle.stx_scenario.specs.declared.scenario.Scenario.{Scenario}
@@ -9,6 +9,8 @@ use Rattle.stx_scenario.specs.declared.scenario.Stmt.{Stmt}
 use Rattle.stx_scenario.specs.declared.scenario.Propagation.{Propagation}
 use Rattle.stx_scenario.specs.declared.scenario.TxAttr.{TxAttr}
 use Rattle.stx_scenario.specs.BuiltIn.{built_in}
+use Rattle.stx_model.specs.Attributes.{method_attribute}
+use Rattle.stx_model.specs.Classes.{IsTree}
 use Rattle.stx_model.specs.Weight.{body_of}
 
 -- ---- methods
@@ -17,20 +19,29 @@ use Rattle.stx_model.specs.Weight.{body_of}
 abbrev pub default_attribute : TxAttr
 default_attribute = record { propagation = Propagation.Required; read_only = false; rules = [] }
 
--- a statement on a row, or a throw of a class that there is
-abbrev pub is_flat : Stmt → Bool
-is_flat (Stmt.Read k) = true
-is_flat (Stmt.Write k v) = true
-is_flat (Stmt.Erase k) = true
-is_flat (Stmt.Add k v) = true
-is_flat (Stmt.Need k v) = true
-is_flat (Stmt.Throw x) = nat_lt x.0 (length built_in)
-is_flat _ = false
+pub record IsFlatAttribute (attribute : TxAttr) : Type 0 where
+  pub required : attribute.propagation ≡ Propagation.Required
+  pub few_rules : length attribute.rules ≤ 64
 
-pub record IsFlatMethod (method : Method) : Type 0 where
-  pub tx : method.tx ≡ Some default_attribute
+abbrev pub HasFlatAttribute : Option TxAttr → Type 0
+HasFlatAttribute (Some attribute) = IsFlatAttribute attribute
+HasFlatAttribute None = ⊥
+
+-- a statement on a row, or a throw of one of so many classes
+abbrev pub is_flat : ℕ → Stmt → Bool
+is_flat classes (Stmt.Read k) = true
+is_flat classes (Stmt.Write k v) = true
+is_flat classes (Stmt.Erase k) = true
+is_flat classes (Stmt.Add k v) = true
+is_flat classes (Stmt.Need k v) = true
+is_flat classes (Stmt.Throw x) = nat_lt x.0 classes
+is_flat classes _ = false
+
+-- a method with an attribute, its own or its bean's
+pub record IsFlatMethod (S : Scenario) (method : Method) : Type 0 where
+  pub tx : HasFlatAttribute (method_attribute S method)
   pub few : length method.body ≤ 256
-  pub body : list_all is_flat method.body ≡ true
+  pub body : list_all (is_flat (length S.classes)) method.body ≡ true
 
 -- ---- weight, while methods call no other: 1 for each call and 1 for each statement of its method
 
@@ -51,8 +62,10 @@ pub record AreFlatCalls (S : Scenario) (calls : List MethodNo) : Type 0 where
   pub there : list_all (λ m. nat_lt m.0 (length S.methods)) calls ≡ true
 
 pub record IsFlat (S : Scenario) : Type 0 where
-  pub classes : S.classes ≡ built_in
-  pub methods : (m : ℕ) (method : Method) → slice_get S.methods m ≡ Some method → IsFlatMethod method
+  pub built_in_first : take (length built_in) S.classes ≡ built_in
+  pub few_classes : length S.classes < 2 ^ 32
+  pub tree : IsTree S.classes
+  pub methods : (m : ℕ) (method : Method) → slice_get S.methods m ≡ Some method → IsFlatMethod S method
   pub clients : (c : ℕ) (calls : List MethodNo) → slice_get S.clients c ≡ Some calls → AreFlatCalls S calls
   pub few_clients : length S.clients ≤ 64
   pub light : flat_weight S ≤ 200000

@@ -49,7 +49,7 @@ abbrev pub first_least_from : ℕ → List (Option ℕ) → Option ℕ
 first_least_from place depths = option_and_then (λ depth. position_from (is_at depth) place depths) (least depths)
 
 -- the place, from 0, of the first rule of least depth; none where no rule matches the class or one above it
-abbrev pub winner : List ClassDecl → List Rule → ℕ → Option ℕ
+unfoldable pub winner : List ClassDecl → List Rule → ℕ → Option ℕ
 winner classes rules thrown = first_least_from 0 (map (rule_depth classes thrown) rules)
 
 -- a rule says whether it rolls back; without one RuntimeException, Error and all below them do
@@ -57,5 +57,5 @@ abbrev pub says_rollback : List ClassDecl → ℕ → Option Rule → Bool
 says_rollback classes thrown (Some rule) = rule.rollback
 says_rollback classes thrown None = rolls_back_by_default classes thrown
 
-abbrev pub rolls_back : List ClassDecl → List Rule → ℕ → Bool
+unfoldable pub rolls_back : List ClassDecl → List Rule → ℕ → Bool
 rolls_back classes rules thrown = says_rollback classes thrown (option_and_then (slice_get rules) (winner classes rules thrown))

@@ -1,7 +1,7 @@
 -- The script: what a client's calls denote, given what its own shared calls were answered.
--- Built so far: calls of methods whose attribute has propagation required and no rules, and in their bodies the
--- statements on rows and `throw`. A client's call meets the bare context, so each opens a fresh scope that suspends
--- nothing; nothing registers, so no round has a line; and nothing marks. Every other form breaks.
+-- Built so far: calls of methods whose attribute has propagation required, and in their bodies the statements on rows
+-- and `throw`. A client's call meets the bare context, so each opens a fresh scope that suspends nothing; nothing
+-- registers, so no round has a line; and nothing marks. Every other form breaks.
 -- (Spring: TransactionAspectSupport.invokeWithinTransaction, AbstractPlatformTransactionManager.)
 use Rattle.std.specs.Prelude.{ℕ, ◌+◌, ◌-◌, ◌^◌, Bool, true, false, ◌&&◌, ℤ, pos, negsuc, ◌+ℤ◌, int_lt, int_le, List, [], ◌∷◌, Option, Some, None, slice_get, unwrap_or}
 use Rattle.stx_scenario.specs.declared.numbers.ClassNo.{ClassNo}
@@ -23,7 +23,7 @@ use Rattle.stx_model.specs.declared.line.Line.{Line}
 use Rattle.stx_model.specs.declared.manager.Kind.{Kind}
 use Rattle.stx_model.specs.declared.manager.Ending.{Ending}
 use Rattle.stx_model.specs.Attributes.{attribute}
-use Rattle.stx_model.specs.Classes.{rolls_back_by_default}
+use Rattle.stx_model.specs.Rules.{winner, rolls_back}
 use Rattle.stx_model.specs.Weight.{body_of}
 use Rattle.stx_model.specs.Contexts.{Context, Live, Registration, bare}
 use Rattle.stx_model.specs.Meanings.{State, at_first, Result, Over, Stops, Breaks, Meaning, and_then, finally, say, with_context, ask, on_take, on_begin, on_access}
@@ -111,18 +111,19 @@ unfoldable pub completes : MethodNo → ℕ → ℕ → Ending → Option ClassN
 completes m c t e x st = ask (ending_call t e) (λ _. gives_back m c x) st
 
 -- a scope rolls back where its body threw and the rules say so, else it commits
-abbrev pub ending_after : Scenario → Option ClassNo → Ending
-ending_after S None = Ending.Commit
-ending_after S (Some x) = elim (rolls_back_by_default S.classes x.0) [ true ↦ Ending.Rollback | false ↦ Ending.Commit ]
+abbrev pub ending_after : Scenario → List Rule → Option ClassNo → Ending
+ending_after S rules None = Ending.Commit
+ending_after S rules (Some x) = elim (rolls_back S.classes rules x.0) [ true ↦ Ending.Rollback | false ↦ Ending.Commit ]
 
--- where the body threw, what the rules decide: without rules, by default
-abbrev pub ruled : Scenario → Option ClassNo → State → State
-ruled S None st = st
-ruled S (Some x) st = say (Line.Rules (rolls_back_by_default S.classes x.0) None) st
+-- where the body threw, what the rules decide, and which of them won (RuleBasedTransactionAttribute.rollbackOn)
+abbrev pub ruled : Scenario → List Rule → Option ClassNo → State → State
+ruled S rules None st = st
+ruled S rules (Some x) st = say (Line.Rules (rolls_back S.classes rules x.0) (winner S.classes rules x.0)) st
 
--- the end of the scope, after its body
-abbrev pub ends : Scenario → MethodNo → ℕ → ℕ → Option ClassNo → Meaning
-ends S m c t x st = completes m c t (ending_after S x) x (say (Line.End (ending_after S x)) (ruled S x st))
+-- the end of the scope, after its body, by the rules of the method's attribute
+abbrev pub ends : Scenario → MethodNo → TxAttr → ℕ → ℕ → Option ClassNo → Meaning
+ends S m a c t x st =
+    completes m c t (ending_after S a.rules x) x (say (Line.End (ending_after S a.rules x)) (ruled S a.rules x st))
 
 -- ---- a fresh scope
 
@@ -147,7 +148,7 @@ unfoldable pub opened : Scenario → MethodNo → TxAttr → ℕ → ℕ → Mea
 opened S m a c t st =
     let owns = owns_fresh S.settings.mode in
     finally (body (body_of S m) (say (Line.Opened Kind.Fresh owns) (with_context (fresh_context c t a.read_only owns) st)))
-    (ends S m c t)
+    (ends S m a c t)
 
 -- begins a transaction on the connection (DataSourceTransactionManager.doBegin); where the pool was empty the call is
 -- refused (CannotCreateTransactionException)
@@ -162,12 +163,12 @@ fresh S m a st = ask Want.Take (on_take (begins S m a)) st
 
 -- ---- calls
 
-abbrev pub opening_of : Scenario → MethodNo → TxAttr → Propagation → List Rule → Meaning
-opening_of S m a Propagation.Required [] st = fresh S m a st
-opening_of S m a _ _ st = Breaks st
+abbrev pub opening_of : Scenario → MethodNo → TxAttr → Propagation → Meaning
+opening_of S m a Propagation.Required st = fresh S m a st
+opening_of S m a _ st = Breaks st
 
 abbrev pub intercepted : Scenario → MethodNo → Option TxAttr → Meaning
-intercepted S m (Some a) st = opening_of S m a a.propagation a.rules (say (Line.Call m a.propagation a.read_only) st)
+intercepted S m (Some a) st = opening_of S m a a.propagation (say (Line.Call m a.propagation a.read_only) st)
 intercepted S m None st = Breaks st
 
 unfoldable pub invoke : Scenario → MethodNo → Meaning

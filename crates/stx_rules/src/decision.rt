@@ -27,6 +27,7 @@ struct Match {
 
 /// What the rules decide where a class is thrown: the rule of least depth, the first of these where there are several;
 /// without a match `RuntimeException`, `Error` and all below them roll back. The tree is that of the scenario's classes.
+#[tactic(auto, unfolding(stx_model::specs::Rules::rolls_back))]
 pub fn decide(
     tree: &ClassTree,
     scenario: &Scenario,

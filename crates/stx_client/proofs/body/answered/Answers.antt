@@ -11,7 +11,7 @@ use Rattle.stx_client.proofs.body.answered.Goals as goal
 
 pub returns-in-Some : goal.returns-in-Some
 returns-in-Some c =
-    let S = c.args.scenario.now in
+    let S = c.args.setup.now.scenario in
     let scope = c.args.scope in
     let more : FitsSigned w64 c.in-Add.more = search rules in
     let value : FitsSigned w64 c.value_of-in-Add.result = search rules in

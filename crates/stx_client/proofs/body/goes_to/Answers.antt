@@ -7,34 +7,34 @@ use Rattle.stx_client.proofs.body.goes_to.Goals as goal
 
 pub class_of-requires-clause-flat : goal.class_of-requires-clause-flat
 class_of-requires-clause-flat c =
-    flat_at c.args.scenario.now c.args.scope.method c.method.result.now c.method.ensures c.args.place c.in-Some.statement.now c.requires.flat
+    flat_at c.args.setup.now.scenario c.args.scope.method c.method.result.now c.method.ensures c.args.place c.in-Some.statement.now c.requires.flat
     (sym c.get.ensures ∙ ap option_copied c.in-Some.is)
 
 pub thrown-requires-clause-class : goal.thrown-requires-clause-class
 thrown-requires-clause-class c =
     known c.class_of.result c.in-Some.statement.now c.class_of.ensures
-    (flat_at c.args.scenario.now c.args.scope.method c.method.result.now c.method.ensures c.args.place c.in-Some.statement.now c.requires.flat
+    (flat_at c.args.setup.now.scenario c.args.scope.method c.method.result.now c.method.ensures c.args.place c.in-Some.statement.now c.requires.flat
     (sym c.get.ensures ∙ ap option_copied c.in-Some.is))
 
 pub overflow_add-result : goal.overflow_add-result
 overflow_add-result c =
     let within = slice_get_within c.method.result.now.body c.args.place c.in-Some.statement.now (sym c.get.ensures ∙ ap option_copied c.in-Some.is) in
-    let few = few_statements c.args.scenario.now c.args.scope.method c.method.result.now c.method.ensures c.requires.flat in
+    let few = few_statements c.args.setup.now.scenario c.args.scope.method c.method.result.now c.method.ensures c.requires.flat in
     omega (arith, within, few)
 
 pub returns-in-None-clause-goes : goal.returns-in-None-clause-goes
 returns-in-None-clause-goes c pool store =
-    no_statement c.args.scenario.now c.args.scope c.args.place c.method.result.now c.method.ensures (sym c.get.ensures ∙ ap option_copied c.in-None.is) _
+    no_statement c.args.setup.now.scenario c.args.scope c.args.place c.method.result.now c.method.ensures (sym c.get.ensures ∙ ap option_copied c.in-None.is) _
     ∙ c.ended.ensures.goes pool store
 
 pub returns-in-Some-access_of-clause-goes : goal.returns-in-Some-access_of-clause-goes
 returns-in-Some-access_of-clause-goes c pool store =
-    at_access c.args.scenario.now c.args.scope c.args.place c.method.result.now c.method.ensures c.in-Some.statement.now
+    at_access c.args.setup.now.scenario c.args.scope c.args.place c.method.result.now c.method.ensures c.in-Some.statement.now
     (sym c.get.ensures ∙ ap option_copied c.in-Some.is) c.in-Some-access_of.access c.in-Some-access_of.then
     (sym c.access_of.ensures ∙ c.in-Some-access_of.is) c.args.lines.now.items pool store
 
 pub returns-in-None-access_of-clause-goes : goal.returns-in-None-access_of-clause-goes
 returns-in-None-access_of-clause-goes c pool store =
-    at_throw c.args.scenario.now c.args.scope c.args.place c.method.result.now c.method.ensures c.in-Some.statement.now
+    at_throw c.args.setup.now.scenario c.args.scope c.args.place c.method.result.now c.method.ensures c.in-Some.statement.now
     (sym c.get.ensures ∙ ap option_copied c.in-Some.is) c.class_of.result c.class_of.ensures c.args.lines.now.items pool store
     ∙ c.thrown.ensures.goes pool store

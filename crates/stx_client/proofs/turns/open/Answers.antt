@@ -9,6 +9,6 @@ use Rattle.stx_client.proofs.turns.open.Goals as goal
 pub returns-clause-goes : goal.returns-clause-goes
 unfolding opened
 returns-clause-goes c pool store =
-    let S = c.args.scenario.now in
+    let S = c.args.setup.now.scenario in
     let said = c.push.ensures.items ∙ ap (λ owns. c.args.lines.now.items ++ Line.Opened Kind.Fresh owns ∷ []) c.owns_fresh.ensures in
     ap (λ ls. goes_on S c.args.scope 0 (state ls (scope_context S c.args.scope) pool store)) (sym said) ∙ c.goes_to.ensures.goes pool store

@@ -1,6 +1,6 @@
 use Rattle.std.proofs.Common.{◌-◌, ◌+◌, ap, sym, subst, ◌∙◌, length, arith}
 use Rattle.std.specs.Option.{option_map}
-use Rattle.stx_model.specs.Rules.{rule_depth}
+use Rattle.stx_model.specs.Rules.{rule_depth, winner}
 use Rattle.stx_rules.proofs.WinnerLaws.{none_searched, one_more, without_match, later_stays, earlier_wins, only_match, all_searched, IsBest}
 use Rattle.stx_rules.proofs.decision.winner.Goals as goal
 
@@ -35,11 +35,13 @@ loop-place-preserved-in_default-best-2 c =
     (subst (IsBest (c.loop-place.place - 1 + 1) ds) c.in_default-best.is later))
 
 pub returns-in-Some-best-2 : goal.returns-in-Some-best-2
+unfolding winner
 returns-in-Some-best-2 c =
     ap (option_map (λ m. m.place)) (sym c.in-Some-best-2.is)
     ∙ all_searched (rule_depth c.args.classes.now c.args.thrown.0) c.args.rules.now c.loop-place.place _ c.loop-place-test.false c.loop-place.invariant
 
 pub returns-in-None : goal.returns-in-None
+unfolding winner
 returns-in-None c =
     ap (option_map (λ m. m.place)) (sym c.in-None.is)
     ∙ all_searched (rule_depth c.args.classes.now c.args.thrown.0) c.args.rules.now c.loop-place.place _ c.loop-place-test.false c.loop-place.invariant
