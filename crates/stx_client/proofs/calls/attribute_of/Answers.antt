@@ -1,0 +1,13 @@
+-- The attribute that is listed is the method's.
+use Rattle.std.proofs.Common.{◌∙◌, sym, ap}
+use Rattle.std.specs.Prelude.{unwrap_or}
+use Rattle.std.specs.Option.{option_copied}
+use Rattle.stx_model.specs.Flat.{default_attribute}
+use Rattle.stx_client.specs.Machine.{attribute_of}
+use Rattle.stx_client.proofs.calls.attribute_of.Goals as goal
+
+pub returns : goal.returns
+unfolding attribute_of
+returns c =
+    ap (λ o. unwrap_or o default_attribute)
+    (sym (ap option_copied c.in-Some.is) ∙ c.of.ensures.attribute c.args.setup.now.scenario c.args.setup.now.attributes_are)
