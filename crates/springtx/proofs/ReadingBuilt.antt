@@ -1,5 +1,5 @@
 -- What is read has the form that is played: methods that call no other.
-use Rattle.std.proofs.Common.{◌≡◌, ℕ, zero, suc, ◌+◌, ◌≤◌, ◌==◌, Bool, true, false, List, [], ◌∷◌, ◌++◌, length, Option, Some, None, Ok, refl, ap, subst, arith, length-append, lit≤}
+use Rattle.std.proofs.Common.{◌≡◌, ℕ, zero, suc, ◌+◌, ◌≤◌, ◌==◌, Bool, true, false, List, [], ◌∷◌, ◌++◌, length, Option, Some, None, Ok, refl, ap, subst, arith, length-append, lit<, lit≤}
 use Rattle.std.specs.Prelude.{◌&&◌, nat_le, slice_get, codes, if◌then◌else◌}
 use Rattle.std.specs.Option.{option_and_then, option_map, ok_or}
 use Rattle.std.specs.List.{list_all, slice_split}
@@ -20,7 +20,9 @@ use Rattle.springtx.specs.Statements.{with_statement, statement_words, statement
 use Rattle.springtx.specs.Reading.{count, body_items, body_in, method_with, bean_named, name_in, defaults_in, has_only, method_in, the_table_at, the_beans, the_method, the_call, drafted_method, one_call, if_called, scenario_in, scenario_of_document, document_of, scenario_of}
 use Rattle.stx_scenario.specs.declared.numbers.MethodNo.{MethodNo}
 use Rattle.stx_scenario.specs.declared.scenario.Method.{Method}
+use Rattle.stx_scenario.specs.BuiltIn.{built_in}
 use Rattle.stx_model.specs.Flat.{is_flat, IsFlatMethod, AreFlatCalls}
+use Rattle.stx_model.proofs.WorkedClasses.{built_in_tree}
 use Rattle.springtx.specs.Built.{IsBuilt}
 use Rattle.springtx.proofs.StatementLaws.{statement_at-rows}
 
@@ -42,10 +44,10 @@ if_some false o y e = cc
 
 record Grows (draft next : Draft) : Type 0 where
   statement : Stmt
-  is_row : is_flat statement ≡ true
+  is_row : is_flat (length built_in) statement ≡ true
   body : next.body ≡ draft.body ++ statement ∷ []
 
-grown : (draft next : Draft) (row : List ℕ) (s : RowNo → Stmt) → ((k : RowNo) → is_flat (s k) ≡ true) → Some (with_statement draft row s) ≡ Some next → Grows draft next
+grown : (draft next : Draft) (row : List ℕ) (s : RowNo → Stmt) → ((k : RowNo) → is_flat (length built_in) (s k) ≡ true) → Some (with_statement draft row s) ≡ Some next → Grows draft next
 grown draft next row s rows e =
     let same : with_statement draft row s ≡ next = cc in
     subst (Grows draft) same (record { statement = _; is_row = rows _; body = refl })
@@ -71,14 +73,14 @@ item-grows draft next d e =
 -- ---- the body
 
 record IsRowBody (draft : Draft) (most : ℕ) : Type 0 where
-  rows : list_all is_flat draft.body ≡ true
+  rows : list_all (is_flat (length built_in)) draft.body ≡ true
   few : length draft.body ≤ most
   names : length draft.rows ≤ most
 
-all-push : (ss : List Stmt) (s : Stmt) → list_all is_flat ss ≡ true → is_flat s ≡ true → list_all is_flat (ss ++ s ∷ []) ≡ true
+all-push : (ss : List Stmt) (s : Stmt) → list_all (is_flat (length built_in)) ss ≡ true → is_flat (length built_in) s ≡ true → list_all (is_flat (length built_in)) (ss ++ s ∷ []) ≡ true
 all-push [] s all row = rw row
 all-push (x ∷ ss) s all row =
-    let (first, rest) = and_parts (is_flat x) (list_all is_flat ss) all in
+    let (first, rest) = and_parts (is_flat (length built_in) x) (list_all (is_flat (length built_in)) ss) all in
     rw (first, all-push ss s rest row)
 
 next-body : (draft next : Draft) (n : ℕ) → Grows draft next → length next.rows ≤ length draft.rows + 1 → IsRowBody draft n → IsRowBody next (suc n)
@@ -136,11 +138,11 @@ module _ (beans : List Bean) (method : MethodDraft) (b : IsRowBody method.draft 
   S : Scenario
   S = one_call beans method
 
-  method-flat : (m : ℕ) (found : Method) → slice_get S.methods m ≡ Some found → IsFlatMethod found
+  method-flat : (m : ℕ) (found : Method) → slice_get S.methods m ≡ Some found → IsFlatMethod S found
   unfolding S
   method-flat zero found there =
       let same : drafted_method method ≡ found = cc in
-      subst IsFlatMethod same (record { tx = refl; few = b.few; body = b.rows })
+      subst (IsFlatMethod S) same (record { tx = record { required = refl; few_rules = lit≤ tt }; few = b.few; body = b.rows })
   method-flat (suc m) found there = cc
 
   calls-flat : (c : ℕ) (calls : List MethodNo) → slice_get S.clients c ≡ Some calls → AreFlatCalls S calls
@@ -154,7 +156,9 @@ module _ (beans : List Bean) (method : MethodDraft) (b : IsRowBody method.draft 
   unfolding S
   one-built = record {
     flat = record {
-      classes = refl;
+      built_in_first = refl;
+      few_classes = lit< tt;
+      tree = built_in_tree;
       methods = method-flat;
       clients = calls-flat;
       few_clients = lit≤ tt;

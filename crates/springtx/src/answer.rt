@@ -57,7 +57,7 @@ fn played(alloc: Global, scenario: Scenario) -> Result<(Report, Vec<u8>), NoMemo
     let outcome = play(alloc, &setup, setup.scenario.schedule.as_slice())?;
     let values = last_values(alloc, &setup.scenario, outcome.store.as_slice())?;
     let text = print(alloc, &setup.scenario, &outcome, &values)?;
-    let Setup { scenario } = setup;
+    let Setup { scenario, .. } = setup;
     let report = Report { scenario, outcome };
     Ok((report, text))
 }

@@ -18,12 +18,7 @@ use stx_scenario::{
 };
 
 /// Goes on with the statement at this place, or ends the scope after the last.
-pub(crate) fn goes_to(
-    setup: &Setup,
-    scope: Scope,
-    place: usize,
-    lines: &mut Roomy<Line>,
-) -> Stage
+pub(crate) fn goes_to(setup: &Setup, scope: Scope, place: usize, lines: &mut Roomy<Line>) -> Stage
     requires flat { IsFlat setup.now.scenario }
     requires method { IsMethod setup.now.scenario scope.method }
     requires room { 3 ≤ lines.old.spare }

@@ -59,12 +59,7 @@ pub(crate) fn ended(
 }
 
 /// Ends a scope in whose body an exception of this class arises.
-pub(crate) fn thrown(
-    setup: &Setup,
-    scope: Scope,
-    class: ClassNo,
-    lines: &mut Roomy<Line>,
-) -> Stage
+pub(crate) fn thrown(setup: &Setup, scope: Scope, class: ClassNo, lines: &mut Roomy<Line>) -> Stage
     requires flat { IsFlat setup.now.scenario }
     requires method { IsMethod setup.now.scenario scope.method }
     requires class { class.0 < length setup.now.scenario.classes }

@@ -53,12 +53,7 @@ pub(crate) fn hear_pool(
 }
 
 /// Goes on after a note of the store that answers the stage's want.
-pub(crate) fn hear_store(
-    setup: &Setup,
-    at: At,
-    note: StoreNote,
-    lines: &mut Roomy<Line>,
-) -> At
+pub(crate) fn hear_store(setup: &Setup, at: At, note: StoreNote, lines: &mut Roomy<Line>) -> At
     requires flat { IsFlat setup.now.scenario }
     requires sound { IsSound setup.now.scenario at.top at.stage }
     requires answers { IsTrue (store_answers (want_of at.stage) note) }

@@ -1,7 +1,8 @@
 -- Scenarios in which client c calls once method c are flat.
-use Rattle.std.proofs.Common.{◌≡◌, ℕ, zero, suc, ◌+◌, ◌*◌, ◌<◌, ◌≤◌, ◌++◌, ◌∷◌, [], List, length, map, get_or, Some, None, refl, sym, ap, ◌∙◌, subst, arith, ◌⊎◌, inl, inr}
+use Rattle.std.proofs.Common.{◌≡◌, ℕ, zero, suc, ◌+◌, ◌*◌, ◌<◌, ◌≤◌, ◌++◌, ◌∷◌, [], List, length, map, get_or, Some, None, refl, sym, ap, ◌∙◌, subst, arith, ◌⊎◌, inl, inr, lit<, take}
 use Rattle.std.specs.Prelude.{slice_get}
-use Rattle.std.specs.List.{range_with_len, fold}
+use Rattle.std.specs.List.{list_all, range_with_len, fold}
+use Rattle.std.specs.Option.{option_or}
 use Rattle.std.proofs.lemmas.Bool.{lt-ltb}
 use Rattle.std.proofs.lemmas.Option.{slice_get_cases}
 use Rattle.std.proofs.lemmas.List.FromFn.{length-map-range_with_len}
@@ -10,8 +11,11 @@ use Rattle.stx_scenario.specs.declared.scenario.Scenario.{Scenario}
 use Rattle.stx_scenario.specs.declared.scenario.Method.{Method}
 use Rattle.stx_scenario.specs.BuiltIn.{built_in}
 use Rattle.stx_model.specs.Weight.{body_in, body_of}
-use Rattle.stx_model.specs.Flat.{IsFlat, AreFlatCalls, calls_weight}
-use Rattle.stx_play.specs.Fixture.{EachFlat, only_call, calls_one_each}
+use Rattle.stx_model.specs.Attributes.{bean_attribute}
+use Rattle.stx_model.specs.Classes.{IsTree}
+use Rattle.stx_model.specs.Flat.{IsFlat, IsFlatMethod, HasFlatAttribute, AreFlatCalls, calls_weight, is_flat}
+use Rattle.stx_model.proofs.WorkedClasses.{built_in_tree}
+use Rattle.stx_play.specs.Fixture.{IsPlain, EachPlain, only_call, calls_one_each}
 
 -- one more item of which it holds
 pub each_push : {X : Type 0} (P : X → Type 0) (xs : List X) (x : X) → ((i : ℕ) (y : X) → slice_get xs i ≡ Some y → P y) → P x → (i : ℕ) (y : X) → slice_get (xs ++ x ∷ []) i ≡ Some y → P y
@@ -34,7 +38,7 @@ at_range a (suc n) (suc c) calls there =
     let here : (a + 1) + c ≡ a + suc c = omega arith in
     (same ∙ ap only_call here, omega (arith, below))
 
-module _ (S : Scenario) (methods : EachFlat S.methods) where
+module _ (S : Scenario) (methods : EachPlain S.methods) where
   short : (m : MethodNo) → length (body_of S m) ≤ 256
   short m = by_case (slice_get_cases S.methods m.0).1
     where
@@ -49,11 +53,20 @@ module _ (S : Scenario) (methods : EachFlat S.methods) where
       let rest = light_from (a + 1) n (sum + calls_weight S (only_call a)) in
       omega (arith, first, rest)
 
-pub flat_each : (S : Scenario) (n : ℕ) → S.classes ≡ built_in → EachFlat S.methods → length S.methods ≡ n → S.clients ≡ calls_one_each n → n ≤ 64 → 1 ≤ S.settings.pool → S.settings.pool ≤ 64 → IsFlat S
+plain_flat : (S : Scenario) → S.classes ≡ built_in → (method : Method) → IsPlain method → IsFlatMethod S method
+plain_flat S classes method plain = record {
+  tx = subst (λ o. HasFlatAttribute (option_or o (bean_attribute S method))) (sym plain.tx) (record { required = refl; few_rules = omega arith });
+  few = plain.few;
+  body = ap (λ cs. list_all (is_flat (length cs)) method.body) classes ∙ plain.body;
+}
+
+pub flat_each : (S : Scenario) (n : ℕ) → S.classes ≡ built_in → EachPlain S.methods → length S.methods ≡ n → S.clients ≡ calls_one_each n → n ≤ 64 → 1 ≤ S.settings.pool → S.settings.pool ≤ 64 → IsFlat S
 flat_each S n classes methods count clients few some most =
     record {
-      classes = classes;
-      methods = methods;
+      built_in_first = ap (take (length built_in)) classes;
+      few_classes = rw classes (lit< tt);
+      tree = subst IsTree (sym classes) built_in_tree;
+      methods = λ m method there. plain_flat S classes method (methods m method there);
       clients = λ c calls there. one c calls (at_range 0 n c calls (ap (λ cs. slice_get cs c) (sym clients) ∙ there));
       few_clients = rw (clients, length-map-range_with_len only_call 0 n) few;
       light = rw clients (omega (arith, light_from S methods 0 n 0, few));

@@ -1,8 +1,9 @@
 // Plays of a few clients, each with one method of its own.
 ghost use Rattle.std.specs.Prelude.{◌≡◌, ◌≤◌, ◌<◌, length, IfOk, map};
 ghost use Rattle.std.specs.List.{list_all};
-ghost use Rattle.stx_model.specs.Flat.{IsFlat, IsFlatMethod, is_flat};
-ghost use Rattle.stx_play.specs.Fixture.{EachFlat, calls_one_each};
+ghost use Rattle.stx_scenario.specs.BuiltIn.{built_in};
+ghost use Rattle.stx_model.specs.Flat.{IsFlat, is_flat};
+ghost use Rattle.stx_play.specs.Fixture.{IsPlain, EachPlain, calls_one_each};
 
 use crate::{Played, play};
 use std::alloc::Global;
@@ -54,7 +55,7 @@ fn one_each(
 }
 
 fn methods_of(alloc: Global, bodies: &[&[Stmt]]) -> Result<List<Method>, NoMemory>
-    ensures flat { IfOk result (λ methods. EachFlat methods) }
+    ensures flat { IfOk result (λ methods. EachPlain methods) }
     ensures count { IfOk result (λ methods. length methods ≡ length bodies.now) }
 {
     let mut methods = List::new(alloc);
@@ -65,7 +66,7 @@ fn methods_of(alloc: Global, bodies: &[&[Stmt]]) -> Result<List<Method>, NoMemor
 }
 
 fn method(alloc: Global, body: &[Stmt]) -> Result<Method, NoMemory>
-    ensures { IfOk result (λ method. IsFlatMethod method) }
+    ensures { IfOk result (λ method. IsPlain method) }
 {
     if body.len() > 256 || !all_flat(body) {
         return Err(NoMemory);
@@ -85,13 +86,13 @@ fn method(alloc: Global, body: &[Stmt]) -> Result<Method, NoMemory>
 }
 
 fn all_flat(body: &[Stmt]) -> bool
-    ensures { result ≡ list_all is_flat body.now }
+    ensures { result ≡ list_all (is_flat (length built_in)) body.now }
 {
     body.iter().all(|statement| flat(*statement))
 }
 
 fn flat(statement: Stmt) -> bool
-    ensures { result ≡ is_flat statement }
+    ensures { result ≡ is_flat (length built_in) statement }
 {
     match statement {
         Stmt::Read(_) | Stmt::Write(_, _) | Stmt::Erase(_) | Stmt::Add(_, _) | Stmt::Need(_, _) =>

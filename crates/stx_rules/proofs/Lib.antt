@@ -1,3 +1,4 @@
 pub mod PartLaws
 pub mod DepthLaws
 pub mod WinnerLaws
+pub mod NearestLaws

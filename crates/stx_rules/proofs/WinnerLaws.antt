@@ -16,20 +16,20 @@ pub record IsBest (n : ℕ) (depths : List (Option ℕ)) (best : Option Match) :
 
 -- ---- the least depth of one more
 
-least_here : (e m : ℕ) (ds : List (Option ℕ)) → least ds ≡ Some m → e ≤ m → least (Some e ∷ ds) ≡ Some e
+pub least_here : (e m : ℕ) (ds : List (Option ℕ)) → least ds ≡ Some m → e ≤ m → least (Some e ∷ ds) ≡ Some e
 least_here e m ds is near = ap (lesser (Some e)) is ∙ ap (λ b. Some (cond b e m)) (le-leb e m near)
 
-least_later : (e m : ℕ) (ds : List (Option ℕ)) → least ds ≡ Some m → m < e → least (Some e ∷ ds) ≡ Some m
+pub least_later : (e m : ℕ) (ds : List (Option ℕ)) → least ds ≡ Some m → m < e → least (Some e ∷ ds) ≡ Some m
 least_later e m ds is nearer = ap (lesser (Some e)) is ∙ ap (λ b. Some (cond b e m)) (lt-leb e m nearer)
 
 -- ---- and its first place
 
-first_here : (n e : ℕ) (ds : List (Option ℕ)) → least (Some e ∷ ds) ≡ Some e → first_least_from n (Some e ∷ ds) ≡ Some n
+pub first_here : (n e : ℕ) (ds : List (Option ℕ)) → least (Some e ∷ ds) ≡ Some e → first_least_from n (Some e ∷ ds) ≡ Some n
 first_here n e ds is =
     ap (option_and_then (λ depth. position_from (is_at depth) n (Some e ∷ ds))) is
     ∙ ap (λ b. cond b (Some n) (position_from (is_at e) (n + 1) ds)) (eq-eqb e e refl)
 
-first_later : (n e m : ℕ) (ds : List (Option ℕ)) → least ds ≡ Some m → m < e
+pub first_later : (n e m : ℕ) (ds : List (Option ℕ)) → least ds ≡ Some m → m < e
     → first_least_from n (Some e ∷ ds) ≡ first_least_from (n + 1) ds
 first_later n e m ds is nearer =
     ap (option_and_then (λ depth. position_from (is_at depth) n (Some e ∷ ds))) (least_later e m ds is nearer)

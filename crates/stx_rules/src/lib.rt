@@ -3,8 +3,10 @@
 
 mod decision;
 mod depth;
+mod laws;
 
 pub use decision::{Decision, decide};
+pub use laws::winner_is_nearest;
 
 #[cfg(test)]
 mod tests;

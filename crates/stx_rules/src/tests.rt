@@ -343,3 +343,8 @@ fn a_rule_reaches_down_64_classes(rt: HostRuntime) -> Result<(), Fail> {
     assert_eq!(rt; decision.winner, Some(1));
     Ok(())
 }
+
+#[test]
+fn the_law_can_be_called() {
+    winner_is_nearest();
+}
