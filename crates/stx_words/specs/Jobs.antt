@@ -1,0 +1,48 @@
+-- The job that the words after a program's name state, by `clap`'s own definition of what it makes of them.
+use Rattle.std.specs.Prelude.{Bool, true, false, if◌then◌else◌, ℕ, List, [], ◌∷◌, codes, map, Option, Some, None, option_and_then, String, string_bytes}
+use Rattle.std.specs.Str.{bytes_eq}
+use Rattle.std.specs.declared.alloc.Global.{Global}
+use Rattle.clap.specs.Words.{App, Kinds, Row, fault_of, matches_of, with_rule}
+use Rattle.stx_words.specs.Options.{plain_app, do_rule, seed_rule, clients_rule, job_in, seed_in, clients_in}
+use Rattle.stx_words.specs.declared.job.Job.{Job}
+
+-- the job that a word under `--do` names
+abbrev pub job_named : List Row → List ℕ → Option Job
+job_named rows word =
+    if bytes_eq word (codes "play") then Some Job.Play
+    else (if bytes_eq word (codes "check") then Some Job.Check
+    else (if bytes_eq word (codes "rules") then Some Job.Rules
+    else (if bytes_eq word (codes "load") then Some (Job.Load (seed_in rows) (clients_in rows))
+    else None)))
+
+-- the jobs that the program does so far
+abbrev pub is_built : Job → Bool
+is_built Job.Play = true
+is_built Job.Check = true
+is_built _ = false
+
+abbrev pub if_built : Job → Option Job
+if_built job = if is_built job then Some job else None
+
+-- the job that the values of the options state
+abbrev pub job_by : List Row → Option Job
+job_by rows = option_and_then if_built (option_and_then (job_named rows) (job_in rows))
+
+-- the command line of `springtx`, without groups of options and rules between them
+abbrev pub springtx_app : App
+springtx_app = with_rule (with_rule (with_rule (plain_app (codes "springtx")) do_rule) seed_rule) clients_rule
+
+-- none where `clap` finds a fault in the words
+abbrev pub job_unless : Kinds → List Row → Option Job
+job_unless [] rows = job_by rows
+job_unless (fault ∷ more) rows = None
+
+-- the job that the bytes of the words state; `clap` takes the program's name before them
+unfoldable pub job_stated : List (List ℕ) → Option Job
+job_stated words =
+    let all = codes "springtx" ∷ words in
+    job_unless (fault_of springtx_app all) (matches_of springtx_app all)
+
+-- the job that the words state, if they state one
+abbrev pub job_of : List (String Global) → Option Job
+job_of words = job_stated (map string_bytes words)

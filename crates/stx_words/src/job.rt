@@ -1,0 +1,55 @@
+// The jobs, each named by its word under `--do`.
+ghost use Rattle.std.specs.Prelude.{◌≡◌};
+ghost use Rattle.clap.specs.Words.{found_of, rows_of};
+ghost use Rattle.stx_words.specs.Jobs.{is_built, job_named, job_by};
+
+use crate::options::{clients_in, job_in, seed_in};
+use clap::ArgMatches;
+
+/// What the words of a call ask for.
+#[derive(Clone, Copy, Debug, PartialEq, Eq)]
+pub enum Job {
+    /// Plays the scenario on one thread, and writes its report.
+    Play,
+    /// Says whether the scenario is valid, and its weight.
+    Check,
+    /// Says what the rollback rules of each method decide (`RuleBasedTransactionAttribute`).
+    Rules,
+    /// Plays a scenario that is generated from a seed, with so many clients.
+    Load { seed: u64, clients: u32 },
+}
+
+/// The job that the values of the options state, if the program does it.
+pub(crate) fn job_by(matches: &ArgMatches<'_>) -> Option<Job>
+    ensures { result ≡ job_by (rows_of (found_of matches.now)) }
+{
+    let job = job_named(job_in(matches)?, matches)?;
+    if is_built(job) { Some(job) } else { None }
+}
+
+/// The job that a word under `--do` names.
+fn job_named(word: &str, matches: &ArgMatches<'_>) -> Option<Job>
+    ensures { result ≡ job_named (rows_of (found_of matches.now)) word.now }
+{
+    match word {
+        "play" => Some(Job::Play),
+        "check" => Some(Job::Check),
+        "rules" => Some(Job::Rules),
+        "load" => Some(Job::Load {
+            seed: seed_in(matches),
+            clients: clients_in(matches),
+        }),
+        _ => None,
+    }
+}
+
+/// Whether the program does this job so far.
+fn is_built(job: Job) -> bool
+    ensures { result ≡ is_built job }
+{
+    match job {
+        Job::Play => true,
+        Job::Check => true,
+        _ => false,
+    }
+}
