@@ -5,7 +5,7 @@ use Rattle.std.specs.Ordering.{nat_cmp, eq_by_cmp}
 use Rattle.std.specs.Cmp.{unsigned_tied}
 use Rattle.std.specs.FinMap.{get, find, get-insert, get-remove, get-from_entries}
 use Rattle.std.proofs.lemmas.Cmp.{nat_cmp_total}
-use Rattle.std.proofs.lemmas.List.{take_more, drop_more, take_all, take-append-le}
+use Rattle.std.proofs.lemmas.List.{take_more, drop_more}
 use Rattle.std.proofs.lemmas.List.Elements.{filter_map-append}
 use Rattle.std.proofs.lemmas.List.Sums.{fold-append}
 use Rattle.stx_model.specs.declared.history.Access.{Access}
@@ -99,13 +99,6 @@ values-more kept values H names i d are within =
     ∙ ap (λ js. values_from (after_all (first_rows values) js) 0 names) (filter_map-append (committed_by notes) (take i H) (get_or H i d ∷ []))
     ∙ ap (λ rows. values_from rows 0 names) (fold-append (λ m j. after m j.work) (first_rows values) (filter_map (committed_by notes) (take i H)) (filter_map (committed_by notes) (get_or H i d ∷ [])))
     ∙ values-committed kept notes are names (get_or H i d).client (get_or H i d).note (rows_so_far values notes (take i H))
-
--- values that were written through a slice of all of them
-pub whole-write : {X : Type 0} (now was : List X) (n : ℕ) → length now ≡ n → take n (now ++ drop (length now) was) ≡ now
-whole-write now was n long =
-    let within : n ≤ length now = omega (arith, long) in
-    let all : length now ≤ n = omega (arith, long) in
-    take-append-le n now (drop (length now) was) within ∙ take_all n now all
 
 -- ---- the first values
 

@@ -2,3 +2,4 @@ pub mod Check
 pub mod Kept
 pub mod KeptWorks
 pub mod RowValues
+pub mod Places

@@ -1,11 +1,13 @@
 // The text of the clients: their numbers and lines, a line of a shared call with its entry's place.
-ghost use Rattle.std.specs.Prelude.{◌≡◌, ◌++◌, IfOk, OnOk, drop, string_bytes};
+ghost use Rattle.std.specs.Prelude.{◌≡◌, ◌++◌, OnOk, drop};
 ghost use Rattle.stx_model.specs.Report as texts;
 ghost use Rattle.stx_trace.specs.LineKinds.{shared_of};
+ghost use Rattle.stx_report.specs.Places.{client_words};
 
+use crate::places::{pool_places, store_places};
 use crate::text::push_text;
 use std::alloc::Global;
-use stx_model::{ClientLines, Line, Outcome, PoolEntry, StoreEntry};
+use stx_model::{ClientLines, Line, Outcome};
 use stx_scenario::{NoMemory, Scenario};
 use stx_trace::{History, push_line};
 
@@ -19,8 +21,13 @@ pub fn push_clients(
     ensures { OnOk result (out.new.items ≡
         out.old.items ++ texts.clients_text scenario.now outcome.now 0 outcome.now.lines) }
 {
+    let clients = outcome.lines.len();
+    let pool = pool_places(alloc, clients, outcome.pool.as_slice())?;
+    let store = store_places(alloc, clients, outcome.store.as_slice())?;
     for (client, lines) in outcome.lines.as_slice().iter().enumerate() {
-        push_client(alloc, out, scenario, outcome, client, lines)?;
+        let pool = pool[client].as_slice();
+        let store = store[client].as_slice();
+        push_client(alloc, out, scenario, client, lines, pool, store)?;
     }
     Ok(())
 }
@@ -30,25 +37,17 @@ fn push_client(
     alloc: Global,
     out: &mut Vec<u8>,
     scenario: &Scenario,
-    outcome: &Outcome,
     client: usize,
     lines: &ClientLines,
+    pool: &[u64],
+    store: &[u64],
 ) -> Result<(), NoMemory>
     ensures { OnOk result (out.new.items ≡
-        out.old.items ++ texts.client_text scenario.now outcome.now client lines.now) }
+        out.old.items ++ client_words scenario.now client pool.now store.now lines.now) }
 {
-    let pool = pool_places(alloc, client, outcome.pool.as_slice())?;
-    let store = store_places(alloc, client, outcome.store.as_slice())?;
     let head = format!(in alloc; "client {client}\n")?;
     push_text(out, head.as_str())?;
-    push_lines(
-        alloc,
-        out,
-        scenario,
-        lines.as_slice(),
-        pool.as_slice(),
-        store.as_slice(),
-    )
+    push_lines(alloc, out, scenario, lines.as_slice(), pool, store)
 }
 
 /// Appends lines, each with the place of the next entry in its history.
@@ -115,31 +114,4 @@ fn past_first(places: &[u64]) -> &[u64]
         [] => places,
         [_, rest @ ..] => rest,
     }
-}
-
-fn pool_places(alloc: Global, client: usize, history: &[PoolEntry]) -> Result<Vec<u64>, NoMemory>
-    ensures { IfOk result (λ places. places.items ≡ texts.pool_places history.now client) }
-{
-    let makers: Vec<u32> = history.iter().map(|entry| entry.client).collect(alloc)?;
-    places_of(alloc, client, makers.as_slice())
-}
-
-fn store_places(alloc: Global, client: usize, history: &[StoreEntry]) -> Result<Vec<u64>, NoMemory>
-    ensures { IfOk result (λ places. places.items ≡ texts.store_places history.now client) }
-{
-    let makers: Vec<u32> = history.iter().map(|entry| entry.client).collect(alloc)?;
-    places_of(alloc, client, makers.as_slice())
-}
-
-/// The places, from 1, at which a client is the maker.
-fn places_of(alloc: Global, client: usize, makers: &[u32]) -> Result<Vec<u64>, NoMemory>
-    ensures { IfOk result (λ places. places.items ≡ texts.places_of client 1 makers.now) }
-{
-    let mut places = Vec::new(alloc);
-    for (index, maker) in makers.iter().enumerate() {
-        if *maker as usize == client {
-            places.push(index as u64 + 1)?;
-        }
-    }
-    Ok(places)
 }

@@ -5,6 +5,7 @@ mod check;
 mod clients;
 mod final_rows;
 mod journal;
+mod places;
 mod report;
 mod rows;
 mod text;

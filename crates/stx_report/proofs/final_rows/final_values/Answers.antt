@@ -4,7 +4,8 @@ use Rattle.stx_model.specs.declared.history.StoreEntry.{StoreEntry}
 use Rattle.stx_model.specs.declared.history.StoreNote.{StoreNote}
 use Rattle.stx_report.specs.KeptWorks.{kept_by}
 use Rattle.stx_report.specs.RowValues.{committed_values}
-use Rattle.stx_report.proofs.ValueLaws.{values-more, whole-write}
+use Rattle.stx_report.proofs.ValueLaws.{values-more}
+use Rattle.stx_report.proofs.SliceLaws.{whole-write}
 use Rattle.stx_report.proofs.final_rows.final_values.Goals as goal
 
 pub loop-entry-preserved : goal.loop-entry-preserved
