@@ -17,3 +17,4 @@ pub mod Reads
 pub mod Laws
 pub mod Lines
 pub mod Report
+pub mod CheckText

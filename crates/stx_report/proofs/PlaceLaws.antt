@@ -36,10 +36,10 @@ pub handed_more : (makers : List ℕ) (i d clients : ℕ) (places next : List (L
     → next ≡ placed places (get_or makers i d) (i + 1)
     → AreHandedOut (take i makers) clients places → AreHandedOut (take (i + 1) makers) clients next
 handed_more makers i d clients places next within grown so_far = record {
-    count = ap length grown ∙ length-set places maker (get_or places maker [] ++ (i + 1) ∷ []) ∙ so_far.count;
-    each = λ c below. slice_get-get_or next c [] (omega (arith, below, ap length grown, length-set places maker (get_or places maker [] ++ (i + 1) ∷ []), so_far.count))
-        ∙ ap Some (ap (λ p. get_or p c []) grown ∙ at c below (cases_eq c maker) ∙ sym (places_of-more c makers i d within));
-  }
+  count = ap length grown ∙ length-set places maker (get_or places maker [] ++ (i + 1) ∷ []) ∙ so_far.count;
+  each = λ c below. slice_get-get_or next c [] (omega (arith, below, ap length grown, length-set places maker (get_or places maker [] ++ (i + 1) ∷ []), so_far.count))
+      ∙ ap Some (ap (λ p. get_or p c []) grown ∙ at c below (cases_eq c maker) ∙ sym (places_of-more c makers i d within));
+}
   where
     maker : ℕ
     maker = get_or makers i d
@@ -65,10 +65,10 @@ handed_more makers i d clients places next within grown so_far = record {
 -- at first nobody has a place
 pub handed_none : (makers : List ℕ) (clients : ℕ) (places : List (List ℕ)) → places ≡ replicate clients [] → AreHandedOut (take 0 makers) clients places
 handed_none makers clients places are = record {
-    count = ap length are ∙ length-replicate clients [];
-    each = λ c below. slice_get-get_or places c [] (omega (arith, below, ap length are, length-replicate {A = List ℕ} clients []))
-        ∙ ap Some (ap (λ p. get_or p c []) are ∙ get_or-replicate clients c [] [] below);
-  }
+  count = ap length are ∙ length-replicate clients [];
+  each = λ c below. slice_get-get_or places c [] (omega (arith, below, ap length are, length-replicate {A = List ℕ} clients []))
+      ∙ ap Some (ap (λ p. get_or p c []) are ∙ get_or-replicate clients c [] [] below);
+}
 
 pub handed_all : (makers : List ℕ) (i clients : ℕ) (places : List (List ℕ)) → length makers ≤ i → AreHandedOut (take i makers) clients places → AreHandedOut makers clients places
 handed_all makers i clients places past all = rw (take_all i makers past) at all

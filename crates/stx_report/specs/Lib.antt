@@ -1,4 +1,3 @@
-pub mod Check
 pub mod Kept
 pub mod KeptWorks
 pub mod RowValues

@@ -1,5 +1,5 @@
 // The text of every kind of line, against text written by hand.
-use super::push_line;
+use super::{method_name, push_line};
 use std::alloc::Global;
 use std::test::Fail;
 use stx_model::{Access, Answer, Ending, Kind, Label, Line};
@@ -91,6 +91,15 @@ fn listener(alloc: Global) -> Result<Listener, NoMemory> {
         fallback: false,
         body: List::new(alloc),
     })
+}
+
+#[test]
+fn a_method_is_named_after_its_bean(rt: HostRuntime) -> Result<(), Fail> {
+    let alloc = rt.alloc();
+    let scenario = small(alloc)?;
+    assert_eq!(rt; method_name(alloc, &scenario, MethodNo(0))?.as_str(), "b.m");
+    assert_eq!(rt; method_name(alloc, &scenario, MethodNo(1))?.as_str(), "");
+    Ok(())
 }
 
 #[test]

@@ -13,11 +13,11 @@ loop-client-preserved c =
     let client = c.loop-client.client in
     let below : client < c.len-clients.result = omega (arith, c.loop-client-test.true, c.len-clients.ensures, ap length c.as_slice-lines-items.ensures) in
     let pool = c.as_slice-pool.ensures
-        ∙ each_at _ c.len-clients.result c.in_ok-pool.pool.items client _ _ c.in_ok-pool.ensures below c.index.ensures
-        ∙ ap (λ history. pool_places history client) c.as_slice.ensures in
+    ∙ each_at _ c.len-clients.result c.in_ok-pool.pool.items client _ _ c.in_ok-pool.ensures below c.index.ensures
+    ∙ ap (λ history. pool_places history client) c.as_slice.ensures in
     let store = c.as_slice-store.ensures
-        ∙ each_at _ c.len-clients.result c.in_ok-store.store.items client _ _ c.in_ok-store.ensures below c.index-in-loop-client.ensures
-        ∙ ap (λ history. store_places history client) c.as_slice-2.ensures in
+    ∙ each_at _ c.len-clients.result c.in_ok-store.store.items client _ _ c.in_ok-store.ensures below c.index-in-loop-client.ensures
+    ∙ ap (λ history. store_places history client) c.as_slice-2.ensures in
     clients_step scenario outcome c.as_slice-lines-items.result.now client c.lines-item.result _ _ _
     c.loop-client-test.true c.lines-item.is
     (c.in_ok-push_client.ensures

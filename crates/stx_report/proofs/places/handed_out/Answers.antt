@@ -12,8 +12,8 @@ pub loop-index-preserved : goal.loop-index-preserved
 loop-index-preserved c =
     let long : length c.hand_out.new.places ≡ c.loop-index.places.len = omega arith in
     let grown = whole-write c.hand_out.new.places c.loop-index.places.items c.loop-index.places.len long
-        ∙ c.in_ok-hand_out.ensures
-        ∙ ap (λ places. placed places (get_or c.args.makers.now c.loop-index.index 0) (c.loop-index.index + 1)) c.deref_mut.ensures.value in
+    ∙ c.in_ok-hand_out.ensures
+    ∙ ap (λ places. placed places (get_or c.args.makers.now c.loop-index.index 0) (c.loop-index.index + 1)) c.deref_mut.ensures.value in
     handed_more c.args.makers.now c.loop-index.index 0 c.args.clients c.loop-index.places.items _ c.loop-index-test.true grown c.loop-index.invariant
 
 pub returns : goal.returns

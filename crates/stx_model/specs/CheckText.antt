@@ -1,4 +1,4 @@
--- The text of a check.
+-- The text that answers a check.
 use Rattle.std.specs.Prelude.{ℕ, List, ◌++◌, codes}
 use Rattle.std.specs.Fmt.{decimal}
 use Rattle.stx_model.specs.Lines.{line_feed}
