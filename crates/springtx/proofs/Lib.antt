@@ -3,6 +3,4 @@ pub mod StatementLaws
 pub mod ReadingLaws
 pub mod ItemLaws
 pub mod ReadingBuilt
-pub mod ReportLaws
-pub mod RowValues
 pub mod ToolLaws

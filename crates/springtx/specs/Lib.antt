@@ -5,5 +5,3 @@ pub mod Reading
 pub mod Built
 pub mod Jobs
 pub mod Tool
-pub mod ReportLines
-pub mod ReportRows

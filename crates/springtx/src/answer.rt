@@ -1,23 +1,20 @@
 // The text that answers a scenario's bytes, made whole before anything is written.
-ghost use Rattle.std.specs.Prelude.{◌≡◌, ◌≢◌, ◌≤◌, IfOk, OnOk, length};
+ghost use Rattle.std.specs.Prelude.{◌≡◌, ◌≢◌, IfOk, OnOk};
 ghost use Rattle.stx_model.specs.Faithful.{Faithful};
 ghost use Rattle.stx_model.specs.Report.{printed};
-ghost use Rattle.stx_model.specs.Stores.{committed_rows};
 ghost use Rattle.springtx.specs.Jobs.{refusal_text as text_of};
 ghost use Rattle.stx_model.specs.Played.{played as played_of};
 ghost use Rattle.springtx.specs.Built.{IsBuilt};
-ghost use Rattle.springtx.specs.ReportRows.{values_from};
 ghost use Rattle.springtx.specs.Tool.{IsAnswerTo};
 
 use crate::fault::ReadFault;
 use crate::reader::read_scenario;
-use crate::report::print;
 use std::alloc::Global;
 use stx_client::Setup;
-use stx_model::{Report, StoreEntry};
+use stx_model::Report;
 use stx_play::play;
-use stx_scenario::{NoMemory, RowNo, Scenario};
-use stx_store::row_after;
+use stx_report::print;
+use stx_scenario::{NoMemory, Scenario};
 
 /// What the tool answers.
 #[derive(Debug, Drop)]
@@ -55,27 +52,10 @@ fn played(alloc: Global, scenario: Scenario) -> Result<(Report, Vec<u8>), NoMemo
 {
     let setup = Setup::new(alloc, scenario)?;
     let outcome = play(alloc, &setup, setup.scenario.schedule.as_slice())?;
-    let values = last_values(alloc, &setup.scenario, outcome.store.as_slice())?;
-    let text = print(alloc, &setup.scenario, &outcome, &values)?;
+    let text = print(alloc, &setup.scenario, &outcome)?;
     let Setup { scenario, .. } = setup;
     let report = Report { scenario, outcome };
     Ok((report, text))
-}
-
-/// The value of each row after all commits, in the order of the row names.
-fn last_values(
-    alloc: Global,
-    scenario: &Scenario,
-    entries: &[StoreEntry],
-) -> Result<Vec<Option<i64>>, NoMemory>
-    requires { length scenario.now.row_names ≤ 256 }
-    ensures { IfOk result (λ values. values.items ≡ values_from (committed_rows scenario.now.values entries.now) 0 scenario.now.row_names) }
-{
-    let mut values = Vec::new(alloc);
-    for row in 0..scenario.row_names.len() {
-        values.push(row_after(&scenario.values, entries, RowNo(row as u32)))?;
-    }
-    Ok(values)
 }
 
 /// The text of a refusal. For want of memory there is none.

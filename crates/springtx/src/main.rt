@@ -5,7 +5,6 @@ mod answer;
 mod fault;
 mod names;
 mod reader;
-mod report;
 mod statements;
 #[cfg(test)]
 mod tests;

@@ -16,13 +16,13 @@ ghost use Rattle.springtx.specs.Reading.{one_call as one_call_of, scenario_in as
 
 use crate::fault::ReadFault;
 use crate::names::is_name;
-use crate::report::method_name as full_name;
 use crate::statements::{Draft, statements_in};
 use std::alloc::Global;
 use stx_scenario::{
     Bean, BeanNo, List, Method, MethodNo, Name, NoMemory, Propagation, Scenario, Settings,
     SyncMode, TxAttr, built_in_classes,
 };
+use stx_trace::method_name as full_name;
 use toml::{Table, Value};
 
 /// The most beans of a scenario.

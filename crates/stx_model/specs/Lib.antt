@@ -18,3 +18,4 @@ pub mod Reads
 pub mod Laws
 pub mod Lines
 pub mod Report
+pub mod CheckText

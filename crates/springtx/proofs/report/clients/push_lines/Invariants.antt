@@ -1,9 +1,0 @@
--- The text so far, and then that of the lines that are left, is the whole text.
-use Rattle.std.proofs.Common.{◌≡◌, ◌++◌, drop, string_bytes}
-use Rattle.stx_model.specs.Report.{lines_text}
-use Rattle.springtx.proofs.report.clients.push_lines.Given as goal
-
-abbrev pub invariant-loop-line : goal.invariant-loop-line
-invariant-loop-line l =
-    string_bytes l.out ++ lines_text l.scenario l.pool_rest l.store_rest (drop l.line-index l.lines)
-    ≡ string_bytes l.initial.out ++ lines_text l.scenario l.pool l.store l.lines

@@ -1,9 +1,0 @@
--- The text so far, and then that of the rows that are left, is the whole text.
-use Rattle.std.proofs.Common.{◌≡◌, ◌++◌, map, string_bytes}
-use Rattle.stx_model.specs.Report.{rows_text}
-use Rattle.springtx.proofs.report.rows.push_rows.Given as goal
-
-abbrev pub invariant-loop-name : goal.invariant-loop-name
-invariant-loop-name l =
-    string_bytes l.out ++ rows_text (map (λ row. (row.0.now, row.1)) l.name-iterator)
-    ≡ string_bytes l.initial.out ++ rows_text (map (λ row. (row.0.now, row.1)) l.initial.name-iterator)

@@ -1,0 +1,5 @@
+pub mod TextLaws
+pub mod KeptLaws
+pub mod ValueLaws
+pub mod PlaceLaws
+pub mod SliceLaws

@@ -1,0 +1,4 @@
+pub mod Kept
+pub mod KeptWorks
+pub mod RowValues
+pub mod Places

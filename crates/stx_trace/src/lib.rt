@@ -1,0 +1,14 @@
+//! The text of each line of a trace, as the report prints it.
+#![tactic(auto)]
+
+mod history;
+mod lines;
+mod names;
+mod words;
+
+pub use history::History;
+pub use lines::push_line;
+pub use names::{class_name, method_name};
+
+#[cfg(test)]
+mod tests;
