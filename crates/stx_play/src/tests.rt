@@ -596,16 +596,19 @@ fn clients_are_played_by_a_schedule(rt: HostRuntime) -> Result<(), Fail> {
 
 fn outcome_of(alloc: Global, case: &Case) -> Result<Outcome, NoMemory> {
     let scenario = one_each(alloc, case.bodies, case.pool, case.values)?;
-    let count = scenario.clients.len();
     let setup = Setup::new(alloc, scenario)?;
-    if !case
-        .schedule
-        .iter()
-        .all(|client| (*client as usize) < count)
-    {
+    played(alloc, &setup, case.schedule)
+}
+
+/// A schedule that names no client of the scenario is refused like want of memory.
+fn played(alloc: Global, setup: &Setup, schedule: &[u32]) -> Result<Outcome, NoMemory>
+    requires { IsFlat setup.now.scenario }
+{
+    let count = setup.scenario.clients.len();
+    if !schedule.iter().all(|client| (*client as usize) < count) {
         return Err(NoMemory);
     }
-    play(alloc, &setup, case.schedule)
+    play(alloc, setup, schedule)
 }
 
 #[test]
