@@ -19,6 +19,7 @@ job_named rows word =
 abbrev pub is_built : Job → Bool
 is_built Job.Play = true
 is_built Job.Check = true
+is_built Job.Rules = true
 is_built _ = false
 
 abbrev pub if_built : Job → Option Job

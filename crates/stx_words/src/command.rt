@@ -1,7 +1,7 @@
 // The command line of `springtx`, and the job that it gives.
-ghost use Rattle.std.specs.Prelude.{◌≡◌, IfOk, IfErr, Some, None};
+ghost use Rattle.std.specs.Prelude.{◌≡◌, IfOk, IfErr, Some, None, true};
 ghost use Rattle.clap.specs.Words.{app_of};
-ghost use Rattle.stx_words.specs.Jobs.{springtx_app, job_of};
+ghost use Rattle.stx_words.specs.Jobs.{springtx_app, job_of, is_built};
 
 use crate::job::job_by;
 use crate::matches::{matches_from, with_name};
@@ -15,6 +15,7 @@ use std::alloc::{AllocError, Global};
 /// An option that the job doesn't use may be given, and its value must be in form all the same.
 pub fn read_words(alloc: Global, words: &[String]) -> Result<Job, WordsFault>
     ensures ok { IfOk result (λ job. job_of words.now ≡ Some job) }
+    ensures built { IfOk result (λ job. is_built job ≡ true) }
     ensures usage { IfErr result (λ fault. fault ≡ WordsFault.Usage → job_of words.now ≡ None) }
 {
     let all = with_name(alloc, "springtx", words)?;

@@ -1,5 +1,5 @@
 // The jobs, each named by its word under `--do`.
-ghost use Rattle.std.specs.Prelude.{◌≡◌};
+ghost use Rattle.std.specs.Prelude.{◌≡◌, IfSome, true};
 ghost use Rattle.clap.specs.Words.{found_of, rows_of};
 ghost use Rattle.stx_words.specs.Jobs.{is_built, job_named, job_by};
 
@@ -11,23 +11,23 @@ use clap::ArgMatches;
 pub enum Job {
     /// Plays the scenario on one thread, and writes its report.
     Play,
-    /// Says whether the scenario is valid, and its weight.
+    /// Says whether the scenario is valid, and how much work it is.
     Check,
-    /// Says what the rollback rules of each method decide (`RuleBasedTransactionAttribute`).
+    /// Says what the rollback rules of each method decide.
     Rules,
     /// Plays a scenario that is generated from a seed, with so many clients.
     Load { seed: u64, clients: u32 },
 }
 
-/// The job that the values of the options state, if the program does it.
+/// The job that the values of the options state.
 pub(crate) fn job_by(matches: &ArgMatches<'_>) -> Option<Job>
-    ensures { result ≡ job_by (rows_of (found_of matches.now)) }
+    ensures job { result ≡ job_by (rows_of (found_of matches.now)) }
+    ensures built { IfSome result (λ job. is_built job ≡ true) }
 {
     let job = job_named(job_in(matches)?, matches)?;
     if is_built(job) { Some(job) } else { None }
 }
 
-/// The job that a word under `--do` names.
 fn job_named(word: &str, matches: &ArgMatches<'_>) -> Option<Job>
     ensures { result ≡ job_named (rows_of (found_of matches.now)) word.now }
 {
@@ -50,6 +50,7 @@ fn is_built(job: Job) -> bool
     match job {
         Job::Play => true,
         Job::Check => true,
+        Job::Rules => true,
         _ => false,
     }
 }
