@@ -18,4 +18,5 @@ pub mod Reads
 pub mod Laws
 pub mod Lines
 pub mod Report
+pub mod RulesText
 pub mod CheckText
