@@ -1,0 +1,13 @@
+pub mod Names
+pub mod Words
+pub mod Sentences
+pub mod Faults
+pub mod Schema
+pub mod Walk
+pub mod Parts
+pub mod Duplicates
+pub mod Draft
+pub mod Calls
+pub mod Judge
+pub mod Reading
+pub mod Refusals
