@@ -9,5 +9,7 @@ pub mod Duplicates
 pub mod Draft
 pub mod Calls
 pub mod Judge
+pub mod Stages
+pub mod Order
 pub mod Reading
 pub mod Refusals

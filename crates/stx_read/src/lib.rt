@@ -1,14 +1,18 @@
 //! Reads a scenario from the bytes of a file, or says why they state none.
 #![tactic(auto)]
 
+mod duplicates;
 mod fault;
 mod faults;
+mod judging;
 mod named;
+mod names;
 mod path;
 mod schema;
 mod sentence;
 
 pub use fault::{Argument, Fault, ReadFault, Stage};
+pub use judging::judge;
 pub use named::Named;
 pub use schema::{Field, Kind, Leaf, Shape};
 pub use sentence::{Matched, RuleSentence, Sentence};
