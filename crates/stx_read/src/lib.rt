@@ -4,9 +4,11 @@
 mod fault;
 mod faults;
 mod named;
+mod names;
 mod path;
 mod schema;
 mod sentence;
+mod words;
 
 pub use fault::{Argument, Fault, ReadFault, Stage};
 pub use named::Named;
