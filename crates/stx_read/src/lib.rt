@@ -10,6 +10,7 @@ mod names;
 mod path;
 mod schema;
 mod sentence;
+mod words;
 
 pub use fault::{Argument, Fault, ReadFault, Stage};
 pub use judging::judge;
