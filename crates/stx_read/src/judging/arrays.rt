@@ -110,7 +110,8 @@ fn clients_faults(
     let count = scenario.clients.len();
     check_place(alloc, faults, "clients", 1 <= count, Stage::OutOfRange)?;
     check_count(alloc, faults, "clients", MOST_CLIENTS, count)?;
-    for (at, calls) in scenario.clients.as_slice().iter().enumerate() {
+    let clients = scenario.clients.as_slice();
+    for (at, calls) in clients.iter().enumerate() {
         client_faults(alloc, faults, scenario, at, calls)?;
     }
     Ok(())
@@ -123,8 +124,9 @@ fn events_faults(
 ) -> Result<(), NoMemory>
     ensures { OnOk result (faults.new ≡ faults.old ++ events_faults scenario.now) }
 {
-    check_count(alloc, faults, "events", MOST_PARTS, scenario.events.len())?;
-    for (at, name) in scenario.events.as_slice().iter().enumerate() {
+    let events = scenario.events.as_slice();
+    check_count(alloc, faults, "events", MOST_PARTS, events.len())?;
+    for (at, name) in events.iter().enumerate() {
         let passed = is_name(name.as_str());
         check_entry(alloc, faults, "events", at, passed, Stage::BadName)?;
     }
@@ -138,14 +140,9 @@ fn schedule_faults(
 ) -> Result<(), NoMemory>
     ensures { OnOk result (faults.new ≡ faults.old ++ schedule_faults scenario.now) }
 {
-    check_count(
-        alloc,
-        faults,
-        "schedule",
-        MOST_TURNS,
-        scenario.schedule.len(),
-    )?;
-    for (at, client) in scenario.schedule.as_slice().iter().enumerate() {
+    let schedule = scenario.schedule.as_slice();
+    check_count(alloc, faults, "schedule", MOST_TURNS, schedule.len())?;
+    for (at, client) in schedule.iter().enumerate() {
         turn_faults(alloc, faults, scenario, at, *client)?;
     }
     Ok(())
@@ -154,8 +151,9 @@ fn schedule_faults(
 fn rows_faults(alloc: Global, faults: &mut List<Fault>, scenario: &Scenario) -> Result<(), NoMemory>
     ensures { OnOk result (faults.new ≡ faults.old ++ rows_faults scenario.now) }
 {
+    let names = first_rows(scenario);
     check_count(alloc, faults, "rows", MOST_ROWS, scenario.values.len())?;
-    for (at, name) in first_rows(scenario).iter().enumerate() {
+    for (at, name) in names.iter().enumerate() {
         row_faults(alloc, faults, at, name)?;
     }
     Ok(())
@@ -183,8 +181,9 @@ fn beans_faults(
 ) -> Result<(), NoMemory>
     ensures { OnOk result (faults.new ≡ faults.old ++ beans_faults scenario.now) }
 {
-    check_count(alloc, faults, "beans", MOST_PARTS, scenario.beans.len())?;
-    for (at, bean) in scenario.beans.as_slice().iter().enumerate() {
+    let beans = scenario.beans.as_slice();
+    check_count(alloc, faults, "beans", MOST_PARTS, beans.len())?;
+    for (at, bean) in beans.iter().enumerate() {
         bean_faults(alloc, faults, scenario, at, bean)?;
     }
     Ok(())
@@ -197,14 +196,9 @@ fn methods_faults(
 ) -> Result<(), NoMemory>
     ensures { OnOk result (faults.new ≡ faults.old ++ methods_faults scenario.now) }
 {
-    check_count(
-        alloc,
-        faults,
-        "methods",
-        MOST_DECLARED,
-        scenario.methods.len(),
-    )?;
-    for (at, method) in scenario.methods.as_slice().iter().enumerate() {
+    let methods = scenario.methods.as_slice();
+    check_count(alloc, faults, "methods", MOST_DECLARED, methods.len())?;
+    for (at, method) in methods.iter().enumerate() {
         method_faults(alloc, faults, scenario, at, method)?;
     }
     Ok(())
@@ -217,8 +211,9 @@ fn syncs_faults(
 ) -> Result<(), NoMemory>
     ensures { OnOk result (faults.new ≡ faults.old ++ syncs_faults scenario.now) }
 {
-    check_count(alloc, faults, "syncs", MOST_PARTS, scenario.syncs.len())?;
-    for (at, sync) in scenario.syncs.as_slice().iter().enumerate() {
+    let syncs = scenario.syncs.as_slice();
+    check_count(alloc, faults, "syncs", MOST_PARTS, syncs.len())?;
+    for (at, sync) in syncs.iter().enumerate() {
         sync_faults(alloc, faults, scenario, at, sync)?;
     }
     Ok(())
@@ -231,14 +226,9 @@ fn listeners_faults(
 ) -> Result<(), NoMemory>
     ensures { OnOk result (faults.new ≡ faults.old ++ listeners_faults scenario.now) }
 {
-    check_count(
-        alloc,
-        faults,
-        "listeners",
-        MOST_PARTS,
-        scenario.listeners.len(),
-    )?;
-    for (at, listener) in scenario.listeners.as_slice().iter().enumerate() {
+    let listeners = scenario.listeners.as_slice();
+    check_count(alloc, faults, "listeners", MOST_PARTS, listeners.len())?;
+    for (at, listener) in listeners.iter().enumerate() {
         listener_faults(alloc, faults, scenario, at, listener)?;
     }
     Ok(())

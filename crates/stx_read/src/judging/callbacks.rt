@@ -62,7 +62,8 @@ fn syncs_faults(
     requires order { All (SyncInOrder scenario.now) scenario.now.syncs }
     ensures { OnOk result (faults.new ≡ faults.old ++ each_from (sync_callback_faults scenario.now) 0 scenario.now.syncs) }
 {
-    for (at, sync) in scenario.syncs.as_slice().iter().enumerate() {
+    let syncs = scenario.syncs.as_slice();
+    for (at, sync) in syncs.iter().enumerate() {
         sync_faults(alloc, faults, scenario, tree, at, sync)?;
     }
     Ok(())
@@ -79,7 +80,8 @@ fn listeners_faults(
     requires order { All (ListenerInOrder scenario.now) scenario.now.listeners }
     ensures { OnOk result (faults.new ≡ faults.old ++ each_from (listener_callback_faults scenario.now) 0 scenario.now.listeners) }
 {
-    for (at, listener) in scenario.listeners.as_slice().iter().enumerate() {
+    let listeners = scenario.listeners.as_slice();
+    for (at, listener) in listeners.iter().enumerate() {
         listener_faults(alloc, faults, scenario, tree, at, listener)?;
     }
     Ok(())
@@ -184,7 +186,8 @@ fn disallowed(
     requires known { AreKnown scenario.now body.now }
     ensures { OnOk result (faults.new ≡ faults.old ++ disallowed (allowed_in phase scenario.now) path.now body.now) }
 {
-    for (at, statement) in body.as_slice().iter().enumerate() {
+    let body = body.as_slice();
+    for (at, statement) in body.iter().enumerate() {
         let passed = is_allowed(scenario, tree, phase, *statement);
         check_entry(alloc, faults, path, at, passed, Stage::CallbackBody)?;
     }

@@ -1,7 +1,8 @@
 // The entries of a scenario's lists, one by one.
-ghost use Rattle.std.specs.Prelude.{◌≡◌, ◌++◌, codes, OnOk};
-ghost use Rattle.stx_read.specs.Faults.{under as path_under, entry as path_of_entry};
-ghost use Rattle.stx_read.specs.Judge.{name_faults, turn_faults, class_faults, bean_faults, method_faults, sync_faults, listener_faults, client_faults, callback_body_faults};
+ghost use Rattle.std.specs.Prelude.{◌≡◌, ◌++◌, codes, length, OnOk};
+ghost use Rattle.stx_read.specs.declared.fault.Stage.{Stage as Kind};
+ghost use Rattle.stx_read.specs.Faults.{under as path_under, entry as path_of_entry, refused, unless, each_from};
+ghost use Rattle.stx_read.specs.Judge.{name_faults, turn_faults, class_faults, bean_faults, method_faults, sync_faults, listener_faults, client_faults, callback_body_faults, count_faults, is_method};
 
 use crate::fault::{Fault, Stage};
 use crate::faults::refuse;
@@ -12,7 +13,8 @@ use crate::names::{is_class_name, is_name};
 use crate::path::{entry, under};
 use std::alloc::Global;
 use stx_scenario::{
-    Bean, Calls, ClassDecl, List, Listener, Method, Name, NoMemory, Scenario, Stmt, SyncDecl,
+    Bean, Calls, ClassDecl, List, Listener, Method, MethodNo, Name, NoMemory, Scenario, Stmt,
+    SyncDecl,
 };
 
 /// The most clients, and one more than the greatest number of a client.
@@ -207,9 +209,20 @@ pub fn client_faults(
 {
     let path = entry(alloc, "clients", at)?;
     let path = under(alloc, path.as_str(), "calls")?;
-    let path = path.as_str();
+    calls_faults(alloc, faults, scenario, path.as_str(), calls.as_slice())
+}
+
+fn calls_faults(
+    alloc: Global,
+    faults: &mut List<Fault>,
+    scenario: &Scenario,
+    path: &str,
+    calls: &[MethodNo],
+) -> Result<(), NoMemory>
+    ensures { OnOk result (faults.new ≡ faults.old ++ (count_faults 64 path.now (length calls.now) ++ each_from (λ n m. refused (path_of_entry path.now n) (unless (is_method scenario.now m) Kind.UnknownRef)) 0 calls.now)) }
+{
     check_count(alloc, faults, path, MOST_CALLS, calls.len())?;
-    for (at, method) in calls.as_slice().iter().enumerate() {
+    for (at, method) in calls.iter().enumerate() {
         let passed = is_method(scenario, *method);
         check_entry(alloc, faults, path, at, passed, Stage::UnknownRef)?;
     }

@@ -1,6 +1,6 @@
 // The statements of bodies, and the rules of attributes.
-ghost use Rattle.std.specs.Prelude.{◌≡◌, ◌++◌, OnOk};
-ghost use Rattle.stx_read.specs.Judge.{body_faults, callback_body_faults, rules_faults, tx_faults, rule_stage};
+ghost use Rattle.std.specs.Prelude.{◌≡◌, ◌++◌, ◌&&◌, OnOk};
+ghost use Rattle.stx_read.specs.Judge.{names_known, own_known, body_faults, callback_body_faults, rules_faults, tx_faults, rule_stage};
 ghost use Rattle.stx_read.specs.Faults.{refused, entry as path_of_entry};
 
 use crate::fault::{Fault, Stage};
@@ -30,10 +30,16 @@ pub fn body_faults(
 {
     check_count(alloc, faults, path, MOST_STATEMENTS, body.len())?;
     for (at, statement) in body.iter().enumerate() {
-        let passed = names_known(scenario, *statement) && own_known(scenario, bean, *statement);
+        let passed = is_known_in(scenario, bean, *statement);
         check_entry(alloc, faults, path, at, passed, Stage::UnknownRef)?;
     }
     Ok(())
+}
+
+fn is_known_in(scenario: &Scenario, bean: BeanNo, statement: Stmt) -> bool
+    ensures { result ≡ (names_known scenario.now statement && own_known scenario.now bean statement) }
+{
+    names_known(scenario, statement) && own_known(scenario, bean, statement)
 }
 
 /// The statements of a callback.
