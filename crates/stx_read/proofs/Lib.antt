@@ -1,1 +1,4 @@
 pub mod NumberLaws
+pub mod PathLaws
+pub mod SentenceLaws
+pub mod LeafLaws

@@ -3,6 +3,7 @@
 
 mod fault;
 mod faults;
+mod leaf;
 mod named;
 mod names;
 mod path;
