@@ -5,6 +5,7 @@ mod duplicates;
 mod fault;
 mod faults;
 mod judging;
+mod leaf;
 mod named;
 mod names;
 mod path;
