@@ -1,5 +1,5 @@
 -- Laws of lists of faults: how a loop over entries puts them together, and what holds where none is of some kind.
-use Rattle.std.proofs.Common.{◌≡◌, ℕ, zero, suc, ◌+◌, ◌<◌, ◌≤◌, Bool, true, false, cond, List, [], ◌∷◌, ◌++◌, Option, Some, None, length, take, get_or, refl, sym, ◌∙◌, ap, subst, arith, append_assoc}
+use Rattle.std.proofs.Common.{◌≡◌, ℕ, zero, suc, ◌+◌, ◌<◌, ◌≤◌, Bool, true, false, cond, nat_le, List, [], ◌∷◌, ◌++◌, Option, Some, None, length, take, get_or, refl, sym, ◌∙◌, ap, subst, arith, append_assoc}
 use Rattle.std.specs.List.{All, find}
 use Rattle.std.specs.Option.{option_or}
 use Rattle.std.proofs.lemmas.Bool.{false≢true, cases_Bool}
@@ -10,6 +10,7 @@ use Rattle.stx_read.specs.declared.fault.Fault.{Fault}
 use Rattle.stx_read.specs.declared.fault.Stage.{Stage}
 use Rattle.stx_read.specs.Faults.{each_from, refused, unless}
 use Rattle.stx_read.specs.Judge.{count_faults}
+use Rattle.stx_read.specs.Schema.{count_stage}
 
 -- ---- a loop over the entries of a list
 
@@ -64,3 +65,13 @@ pub counted : (start second middle now : List Fault) (most : ℕ) (path : List �
     → middle ≡ start ++ count_faults most path n → now ≡ middle ++ second → now ≡ start ++ (count_faults most path m ++ second)
 counted start second middle now most path n m same one two =
     both start (count_faults most path m) middle second now (one ∙ ap (λ (k : ℕ). start ++ count_faults most path k) same) two
+
+-- ---- the number of clients
+
+least_then_most : (path : List ℕ) (n : ℕ) → refused path (unless (nat_le 1 n) Stage.OutOfRange) ++ count_faults 64 path n ≡ refused path (count_stage 1 64 n)
+least_then_most path zero = refl
+least_then_most path (suc k) = grind arith
+
+pub client_count : (path : List ℕ) (n m : ℕ) → n ≡ m
+    → refused path (unless (nat_le 1 n) Stage.OutOfRange) ++ count_faults 64 path n ≡ refused path (count_stage 1 64 m)
+client_count path n m same = least_then_most path n ∙ ap (λ (k : ℕ). refused path (count_stage 1 64 k)) same

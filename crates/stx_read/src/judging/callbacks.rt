@@ -4,7 +4,7 @@ ghost use Rattle.std.specs.List.{All};
 ghost use Rattle.std.specs.Option.{option_map_or};
 ghost use Rattle.stx_model.specs.Attributes.{attribute};
 ghost use Rattle.stx_model.specs.Classes.{parents_of};
-ghost use Rattle.stx_read.specs.Faults.{each_from};
+ghost use Rattle.stx_read.specs.Faults.{under as path_under, each_from};
 ghost use Rattle.stx_read.specs.Judge.{names_known, allowed_before_commit, allowed_around, allowed_in, disallowed, sync_callback_faults, listener_callback_faults, callback_faults, is_new};
 ghost use Rattle.stx_read.specs.Order.{AreKnown, SyncInOrder, ListenerInOrder, PlacesInOrder};
 ghost use Rattle.stx_read.specs.Stages.{callback_refusal};
@@ -102,46 +102,47 @@ fn sync_faults(
 {
     let path = entry(alloc, "syncs", at)?;
     let path = path.as_str();
-    let before_commit = under(alloc, path, "before_commit")?;
-    disallowed(
+    body_faults(
         alloc,
         faults,
         scenario,
         tree,
         Phase::BeforeCommit,
-        before_commit.as_str(),
+        path,
+        "before_commit",
         &sync.before_commit,
     )?;
-    let before_completion = under(alloc, path, "before_completion")?;
-    disallowed(
+    body_faults(
         alloc,
         faults,
         scenario,
         tree,
         Phase::AfterCompletion,
-        before_completion.as_str(),
+        path,
+        "before_completion",
         &sync.before_completion,
     )?;
-    let after_commit = under(alloc, path, "after_commit")?;
-    disallowed(
+    body_faults(
         alloc,
         faults,
         scenario,
         tree,
         Phase::AfterCommit,
-        after_commit.as_str(),
+        path,
+        "after_commit",
         &sync.after_commit,
     )?;
-    let after_completion = under(alloc, path, "after_completion")?;
-    disallowed(
+    body_faults(
         alloc,
         faults,
         scenario,
         tree,
         Phase::AfterCompletion,
-        after_completion.as_str(),
+        path,
+        "after_completion",
         &sync.after_completion,
-    )
+    )?;
+    Ok(())
 }
 
 fn listener_faults(
@@ -158,8 +159,36 @@ fn listener_faults(
     ensures { OnOk result (faults.new ≡ faults.old ++ listener_callback_faults scenario.now at listener.now) }
 {
     let path = entry(alloc, "listeners", at)?;
-    let path = under(alloc, path.as_str(), "body")?;
     let phase = listener.phase;
+    body_faults(
+        alloc,
+        faults,
+        scenario,
+        tree,
+        phase,
+        path.as_str(),
+        "body",
+        &listener.body,
+    )
+}
+
+// The body under a key of the table at a path. All callbacks but those before the commit may hold the same.
+fn body_faults(
+    alloc: Global,
+    faults: &mut List<Fault>,
+    scenario: &Scenario,
+    tree: &ClassTree,
+    phase: Phase,
+    path: &str,
+    key: &str,
+    body: &List<Stmt>,
+) -> Result<(), NoMemory>
+    requires tree { tree.now ≡ parents_of scenario.now.classes }
+    requires built_in { TRANSACTION_EXCEPTION.0 < length scenario.now.classes }
+    requires known { AreKnown scenario.now body.now }
+    ensures { OnOk result (faults.new ≡ faults.old ++ disallowed (allowed_in phase scenario.now) (path_under path.now key.now) body.now) }
+{
+    let path = under(alloc, path, key)?;
     disallowed(
         alloc,
         faults,
@@ -167,11 +196,10 @@ fn listener_faults(
         tree,
         phase,
         path.as_str(),
-        &listener.body,
+        body.as_slice(),
     )
 }
 
-// The statements of a body that may not stand in it. All but those before the commit may hold the same.
 fn disallowed(
     alloc: Global,
     faults: &mut List<Fault>,
@@ -179,14 +207,13 @@ fn disallowed(
     tree: &ClassTree,
     phase: Phase,
     path: &str,
-    body: &List<Stmt>,
+    body: &[Stmt],
 ) -> Result<(), NoMemory>
     requires tree { tree.now ≡ parents_of scenario.now.classes }
     requires built_in { TRANSACTION_EXCEPTION.0 < length scenario.now.classes }
     requires known { AreKnown scenario.now body.now }
     ensures { OnOk result (faults.new ≡ faults.old ++ disallowed (allowed_in phase scenario.now) path.now body.now) }
 {
-    let body = body.as_slice();
     for (at, statement) in body.iter().enumerate() {
         let passed = is_allowed(scenario, tree, phase, *statement);
         check_entry(alloc, faults, path, at, passed, Stage::CallbackBody)?;

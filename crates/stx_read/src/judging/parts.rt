@@ -163,7 +163,8 @@ pub fn sync_faults(
         path,
         "after_completion",
         &sync.after_completion,
-    )
+    )?;
+    Ok(())
 }
 
 // The body under a key of the table at a path.

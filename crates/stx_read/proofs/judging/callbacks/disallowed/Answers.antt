@@ -9,4 +9,4 @@ pub loop-at-preserved : goal.loop-at-preserved
 loop-at-preserved c = loop_passed _ _ _ c.loop-at.invariant _ _ _ c.loop-at-test.true c.is_allowed-passed.ensures c.in_ok-check_entry.ensures
 
 pub returns : goal.returns
-returns c = loop_end c.loop-at.invariant c.loop-at-test.false _ c.as_slice-body.ensures
+returns c = loop_end c.loop-at.invariant c.loop-at-test.false _ refl

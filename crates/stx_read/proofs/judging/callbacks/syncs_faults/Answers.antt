@@ -6,7 +6,7 @@ pub loop-at-init : goal.loop-at-init
 loop-at-init c = loop_init
 
 pub loop-at-preserved : goal.loop-at-preserved
-loop-at-preserved c = loop_step c.loop-at.invariant _ _ _ c.loop-at-test.true c.sync-item.is c.in_ok-sync_faults.ensures
+loop-at-preserved c = loop_step c.loop-at.invariant _ _ _ c.loop-at-test.true c.index-syncs-at.is c.in_ok-sync_faults.ensures
 
 pub returns : goal.returns
 returns c = loop_end c.loop-at.invariant c.loop-at-test.false _ c.as_slice-syncs.ensures
