@@ -11,5 +11,6 @@ pub mod Calls
 pub mod Judge
 pub mod Stages
 pub mod Order
+pub mod Laws
 pub mod Reading
 pub mod Refusals

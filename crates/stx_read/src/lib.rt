@@ -5,6 +5,7 @@ mod duplicates;
 mod fault;
 mod faults;
 mod judging;
+mod laws;
 mod leaf;
 mod named;
 mod names;
@@ -15,6 +16,7 @@ mod words;
 
 pub use fault::{Argument, Fault, ReadFault, Stage};
 pub use judging::judge;
+pub use laws::{cycles_are_ways, valid_is_in_order};
 pub use named::Named;
 pub use schema::{Field, Kind, Leaf, Shape};
 pub use sentence::{Matched, RuleSentence, Sentence};
