@@ -3,6 +3,10 @@ pub mod FaultLaws
 pub mod QuietLaws
 pub mod CycleLaws
 pub mod OrderLaws
+pub mod SearchLaws
+pub mod ParentLaws
+pub mod CallLaws
+pub mod JudgeLaws
 pub mod PathLaws
 pub mod SentenceLaws
 pub mod LeafLaws

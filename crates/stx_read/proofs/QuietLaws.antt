@@ -7,7 +7,8 @@ use Rattle.std.proofs.lemmas.List.Elements.{All-nil}
 use Rattle.std.proofs.lemmas.Option.{none-some}
 use Rattle.stx_read.specs.declared.fault.Fault.{Fault}
 use Rattle.stx_read.specs.declared.fault.ReadFault.{ReadFault}
-use Rattle.stx_read.specs.declared.fault.Stage.{Stage, BadName, OutOfRange, TooMany, BadWord, UnknownRef}
+use Rattle.stx_read.specs.declared.fault.Stage.{Stage}
+use Rattle.stx_read.specs.declared.fault.Stage.TheVariants.{BadName, OutOfRange, TooMany, BadWord, UnknownRef}
 use Rattle.stx_read.specs.Faults.{each_from, refused, unless, is_stage, first_at, first_some, refusal_at}
 use Rattle.stx_read.specs.Judge.{count_faults}
 use Rattle.stx_read.specs.Schema.{count_stage}
@@ -69,10 +70,10 @@ quiet_passed path true stage asked q = refl
 quiet_passed {of = of} path false stage asked q =
     let here = past (of stage) (record { stage = stage; path = path }) None q.none in absurd (false≢true (sym here.0 ∙ asked))
 
-quiet_many : {of : Stage → Bool} (path : List ℕ) (most n : ℕ) (b : Bool) → of TooMany ≡ true
+pub quiet_many : {of : Stage → Bool} (path : List ℕ) (most n : ℕ) (b : Bool) → of TooMany ≡ true
     → Quiet of (refused path (cond b (Some OutOfRange) (unless (nat_le n most) TooMany))) → b ≡ false → n ≤ most
-quiet_many path most n b asked q none =
-    leb-true n most (quiet_passed path (nat_le n most) TooMany asked (subst (λ (c : Bool). Quiet _ (refused path (cond c (Some OutOfRange) (unless (nat_le n most) TooMany)))) none q))
+quiet_many {of = of} path most n b asked q none =
+    leb-true n most (quiet_passed path (nat_le n most) TooMany asked (subst (λ (c : Bool). Quiet of (refused path (cond c (Some OutOfRange) (unless (nat_le n most) TooMany)))) none q))
 
 pub quiet_count : {of : Stage → Bool} (most : ℕ) (path : List ℕ) (n : ℕ) → of TooMany ≡ true → Quiet of (count_faults most path n) → n ≤ most
 quiet_count most path n asked q = quiet_many path most n _ asked q (grind arith)

@@ -1,4 +1,4 @@
-use Rattle.stx_read.proofs.OrderLaws.{valid_is_in_order}
+use Rattle.stx_read.proofs.JudgeLaws.{valid_is_in_order}
 use Rattle.stx_read.proofs.laws.valid_is_in_order.Goals as goal
 
 pub returns : goal.returns
