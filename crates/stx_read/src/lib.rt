@@ -4,6 +4,7 @@
 mod fault;
 mod faults;
 mod named;
+mod numbers;
 mod path;
 mod schema;
 mod sentence;
