@@ -1,1 +1,3 @@
-pub mod NumberLaws
+pub mod NumbersLaws
+pub mod PartLaws
+pub mod DuplicateLaws

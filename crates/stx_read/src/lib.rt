@@ -1,13 +1,17 @@
 //! Reads a scenario from the bytes of a file, or says why they state none.
 #![tactic(auto)]
 
+mod duplicates;
 mod fault;
 mod faults;
 mod named;
+mod numbered;
 mod numbers;
+mod parts;
 mod path;
 mod schema;
 mod sentence;
+mod words;
 
 pub use fault::{Argument, Fault, ReadFault, Stage};
 pub use named::Named;

@@ -1,5 +1,9 @@
 // What a statement or a rule says by names, before these are looked up.
-use stx_scenario::Name;
+ghost use Rattle.std.specs.Prelude.{◌≡◌, IfOk};
+ghost use Rattle.stx_read.specs.Sentences.{sentence_in as sentence_of, method_in as method_of, rule_in as rule_of};
+
+use std::alloc::Global;
+use stx_scenario::{Name, NoMemory};
 
 /// A statement by the names in it.
 #[derive(Debug, Drop, PartialEq, Eq)]
@@ -36,4 +40,22 @@ pub struct RuleSentence {
 pub enum Matched {
     Class(Name),
     Pattern(Name),
+}
+
+pub fn sentence_in(_alloc: Global, _text: &str) -> Result<Option<Sentence>, NoMemory>
+    ensures { IfOk result (λ said. said ≡ sentence_of _text.now) }
+{
+    Err(NoMemory)
+}
+
+pub fn rule_in(_alloc: Global, _text: &str) -> Result<Option<RuleSentence>, NoMemory>
+    ensures { IfOk result (λ said. said ≡ rule_of _text.now) }
+{
+    Err(NoMemory)
+}
+
+pub fn method_in(_alloc: Global, _text: &str) -> Result<Option<(Name, Name)>, NoMemory>
+    ensures { IfOk result (λ method. method ≡ method_of _text.now) }
+{
+    Err(NoMemory)
 }

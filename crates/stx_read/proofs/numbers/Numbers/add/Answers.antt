@@ -1,6 +1,6 @@
 -- A new name goes to the end.
 use Rattle.std.proofs.Common.{◌∙◌, sym, ap, map, string_bytes}
-use Rattle.stx_read.proofs.NumberLaws.{added-name}
+use Rattle.stx_read.proofs.NumbersLaws.{added-name}
 use Rattle.stx_read.proofs.numbers.Numbers.add.Goals as goal
 
 pub returns-clause-names : goal.returns-clause-names

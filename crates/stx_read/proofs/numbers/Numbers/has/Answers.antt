@@ -1,5 +1,5 @@
 -- A name among the texts.
-use Rattle.stx_read.proofs.NumberLaws.{found-among}
+use Rattle.stx_read.proofs.NumbersLaws.{found-among}
 use Rattle.stx_read.proofs.numbers.Numbers.has.Goals as goal
 
 pub returns : goal.returns

@@ -1,6 +1,6 @@
 -- The place of a name among the texts, and none.
 use Rattle.std.proofs.Common.{◌∙◌, sym}
-use Rattle.stx_read.proofs.NumberLaws.{number-among, number-nothing}
+use Rattle.stx_read.proofs.NumbersLaws.{number-among, number-nothing}
 use Rattle.stx_read.proofs.numbers.Numbers.number_of.Goals as goal
 
 pub returns-in-Some : goal.returns-in-Some
