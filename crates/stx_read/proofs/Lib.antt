@@ -1,3 +1,4 @@
 pub mod NumbersLaws
 pub mod PartLaws
 pub mod DuplicateLaws
+pub mod NumberLaws

@@ -8,6 +8,7 @@ mod named;
 mod numbered;
 mod numbers;
 mod parts;
+mod names;
 mod path;
 mod schema;
 mod sentence;
