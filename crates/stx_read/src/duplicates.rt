@@ -59,11 +59,7 @@ fn duplicate_class(alloc: Global, classes: &[Name]) -> Result<Option<ReadFault>,
     name_again(alloc, &mut numbers, "classes", classes)
 }
 
-fn duplicate_name(
-    alloc: Global,
-    array: &str,
-    names: &[Name],
-) -> Result<Option<ReadFault>, NoMemory>
+fn duplicate_name(alloc: Global, array: &str, names: &[Name]) -> Result<Option<ReadFault>, NoMemory>
     ensures { IfOk result (λ fault. fault ≡ duplicate (path_of_name array.now) (duplicate_from [] 0 names.now)) }
 {
     let mut numbers = Numbers::new(alloc);

@@ -1,14 +1,15 @@
 //! Reads a scenario from the bytes of a file, or says why they state none.
 #![tactic(auto)]
 
+mod draft;
 mod duplicates;
 mod fault;
 mod faults;
 mod named;
+mod names;
 mod numbered;
 mod numbers;
 mod parts;
-mod names;
 mod path;
 mod schema;
 mod sentence;

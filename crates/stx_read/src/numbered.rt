@@ -68,7 +68,7 @@ impl Numbered {
         bean: Option<&str>,
         method: &str,
     ) -> Result<MethodNo, NoMemory>
-        ensures { IfOk result (λ number. number ≡ own_method_number self.now (option_copied bean) method.now) }
+        ensures { IfOk result (λ number. number ≡ own_method_number self.now (option_copied bean.entry) method.now) }
     {
         let Some(bean) = bean else {
             return Ok(MethodNo(NOTHING));

@@ -97,11 +97,7 @@ pub fn numbers_at(alloc: Global, table: &Table, key: &str) -> Result<Vec<i64>, N
 }
 
 /// The tables in the array under a key.
-pub fn tables_at<'a>(
-    alloc: Global,
-    table: &'a Table,
-    key: &str,
-) -> Result<Vec<&'a Table>, NoMemory>
+pub fn tables_at<'a>(alloc: Global, table: &'a Table, key: &str) -> Result<Vec<&'a Table>, NoMemory>
     ensures { IfOk result (λ tables. map (λ inner. table_view inner.now) tables.items ≡ tables_of key.now (table_view table.now)) }
 {
     let mut tables = Vec::new(alloc);

@@ -11,12 +11,12 @@ pub loop-value-preserved : goal.loop-value-preserved
 loop-value-preserved c =
     elim c.match-as_integer.branch [
       | in-Some+in_ok-push w ↦
-        let fits : FitsSigned w64 w.in-Some.number = search rules in
-        rw (w.numbers-is, w.in_ok-push.ensures.items, to_z-of_z)
-            (kept_more view as_integer c.array_at-value-items.result.now c.loop-value.value-index _ _ w.in-Some.number _ c.loop-value-test.true c.value-item.is
-            (sym c.as_integer.ensures ∙ w.in-Some.is) c.loop-value.invariant)
+          let fits : FitsSigned w64 w.in-Some.number = search rules in
+          rw (w.numbers-is, w.in_ok-push.ensures.items, to_z-of_z)
+          (kept_more view as_integer c.array_at-value-items.result.now c.loop-value.value-index _ _ w.in-Some.number _ c.loop-value-test.true c.value-item.is
+          (sym c.as_integer.ensures ∙ w.in-Some.is) c.loop-value.invariant)
       | in_default w ↦
-        rw w.numbers-is
-            (kept_same view as_integer c.array_at-value-items.result.now c.loop-value.value-index _ _ _ c.loop-value-test.true c.value-item.is
-            (sym c.as_integer.ensures ∙ w.in_default.is) c.loop-value.invariant)
+          rw w.numbers-is
+          (kept_same view as_integer c.array_at-value-items.result.now c.loop-value.value-index _ _ _ c.loop-value-test.true c.value-item.is
+          (sym c.as_integer.ensures ∙ w.in_default.is) c.loop-value.invariant)
     ]

@@ -11,11 +11,11 @@ pub loop-value-preserved : goal.loop-value-preserved
 loop-value-preserved c =
     elim c.match-as_table.branch [
       | in-Some+in_ok-push w ↦
-        rw (w.tables-is, w.in_ok-push.ensures.items, map-append)
-            (kept_more view as_table c.array_at-value-items.result.now c.loop-value.value-index _ _ (table_view w.in-Some.inner.now) _ c.loop-value-test.true c.value-item.is
-            (sym c.as_table.ensures ∙ ap (option_map (λ inner. table_view inner.now)) w.in-Some.is) c.loop-value.invariant)
+          rw (w.tables-is, w.in_ok-push.ensures.items, map-append)
+          (kept_more view as_table c.array_at-value-items.result.now c.loop-value.value-index _ _ (table_view w.in-Some.inner.now) _ c.loop-value-test.true c.value-item.is
+          (sym c.as_table.ensures ∙ ap (option_map (λ inner. table_view inner.now)) w.in-Some.is) c.loop-value.invariant)
       | in_default w ↦
-        rw w.tables-is
-            (kept_same view as_table c.array_at-value-items.result.now c.loop-value.value-index _ _ _ c.loop-value-test.true c.value-item.is
-            (sym c.as_table.ensures ∙ ap (option_map (λ inner. table_view inner.now)) w.in_default.is) c.loop-value.invariant)
+          rw w.tables-is
+          (kept_same view as_table c.array_at-value-items.result.now c.loop-value.value-index _ _ _ c.loop-value-test.true c.value-item.is
+          (sym c.as_table.ensures ∙ ap (option_map (λ inner. table_view inner.now)) w.in_default.is) c.loop-value.invariant)
     ]

@@ -11,11 +11,11 @@ pub loop-value-preserved : goal.loop-value-preserved
 loop-value-preserved c =
     elim c.match-as_str.branch [
       | in-Some+in_ok-push w ↦
-        rw (w.texts-is, w.in_ok-push.ensures.items, map-append)
-            (kept_more view as_str c.array_at-value-items.result.now c.loop-value.value-index _ _ w.in-Some.text.now _ c.loop-value-test.true c.value-item.is
-            (sym c.as_str.ensures ∙ ap option_copied w.in-Some.is) c.loop-value.invariant)
+          rw (w.texts-is, w.in_ok-push.ensures.items, map-append)
+          (kept_more view as_str c.array_at-value-items.result.now c.loop-value.value-index _ _ w.in-Some.text.now _ c.loop-value-test.true c.value-item.is
+          (sym c.as_str.ensures ∙ ap option_copied w.in-Some.is) c.loop-value.invariant)
       | in_default w ↦
-        rw w.texts-is
-            (kept_same view as_str c.array_at-value-items.result.now c.loop-value.value-index _ _ _ c.loop-value-test.true c.value-item.is
-            (sym c.as_str.ensures ∙ ap option_copied w.in_default.is) c.loop-value.invariant)
+          rw w.texts-is
+          (kept_same view as_str c.array_at-value-items.result.now c.loop-value.value-index _ _ _ c.loop-value-test.true c.value-item.is
+          (sym c.as_str.ensures ∙ ap option_copied w.in_default.is) c.loop-value.invariant)
     ]
