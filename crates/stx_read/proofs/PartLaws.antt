@@ -27,6 +27,20 @@ module _ {X D B : Type 0} (seen : X → D) (h : D → Option B) (xs : List X) (i
       → bs ≡ filter_map h (map seen (take i xs)) → bs ≡ filter_map h (map seen (take (i + 1) xs))
   kept_same x d bs below here found so_far = rw (kept_so_far x d below here, found, so_far, append-nil)
 
+  pub kept_all : (ds : List D) → length xs ≤ i → map seen xs ≡ ds → filter_map h (map seen (take i xs)) ≡ filter_map h ds
+  kept_all ds past all = ap (filter_map h) (ap (map seen) (take_all i xs past) ∙ all)
+
+  -- and makes f of what is found
+  module _ {C : Type 0} (f : B → C) (cs : List C) where
+    pub made_more : (x d : X) (b : B) → i < length xs → x ≡ get_or xs i d → h (seen x) ≡ Some b
+        → cs ≡ map f (filter_map h (map seen (take i xs))) → cs ++ f b ∷ [] ≡ map f (filter_map h (map seen (take (i + 1) xs)))
+    made_more x d b below here found so_far =
+        rw (kept_so_far x d below here, found, map-append f (filter_map h (map seen (take i xs))) (b ∷ []), so_far)
+
+    pub made_same : (x d : X) → i < length xs → x ≡ get_or xs i d → h (seen x) ≡ None
+        → cs ≡ map f (filter_map h (map seen (take i xs))) → cs ≡ map f (filter_map h (map seen (take (i + 1) xs)))
+    made_same x d below here found so_far = rw (kept_so_far x d below here, found, append-nil, so_far)
+
 -- a loop over xs that has made f of the data of each is done
 pub mapped_all : {X D B : Type 0} (seen : X → D) (f : D → B) (xs : List X) (i : ℕ) (ds : List D) (bs : List B) → length xs ≤ i
     → map seen xs ≡ ds → bs ≡ map (λ x. f (seen x)) (take i xs) → bs ≡ map f ds

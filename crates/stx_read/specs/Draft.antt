@@ -66,9 +66,13 @@ row_said _ = []
 abbrev pub with_name : List (List ℕ) → List ℕ → List (List ℕ)
 with_name names name = if has_name names name then names else names ++ name ∷ []
 
--- the rows of the rows section, and then those that only statements name, by their first naming
+-- rows, and after them those that statements name, by their first naming
+abbrev pub with_rows : List (List ℕ) → List Sentence → List (List ℕ)
+with_rows rows sentences = fold with_name rows (flat_map row_said sentences)
+
+-- the rows of the rows section, and then those that only statements name
 abbrev pub row_names_in : Members → List (List ℕ)
-row_names_in root = fold with_name (names_in root).rows (flat_map row_said (sentences_of root))
+row_names_in root = with_rows (names_in root).rows (sentences_of root)
 
 -- all names that are looked up, in the order of their numbers: also the built-in classes, and the rows that only statements name
 abbrev pub all_names : Members → Numbered

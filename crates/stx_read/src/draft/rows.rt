@@ -2,7 +2,7 @@
 ghost use Rattle.std.specs.Prelude.{◌≡◌, OnOk, IfOk, fold, codes};
 ghost use Rattle.std.specs.List.{flat_map};
 ghost use Rattle.toml.specs.View.{table_view};
-ghost use Rattle.stx_read.specs.Draft.{row_said, with_name, sentences_of, sentences_at as sentences_under, callback_sentences};
+ghost use Rattle.stx_read.specs.Draft.{row_said, with_rows, with_name, sentences_of, sentences_at as sentences_under, callback_sentences};
 
 use super::statements::sentences_at;
 use crate::numbers::Numbers;
@@ -14,7 +14,7 @@ use toml::Table;
 
 /// Puts the rows that the statements of a document name after those that are there.
 pub fn with_named_rows(alloc: Global, root: &Table, rows: Numbers) -> Result<Numbers, NoMemory>
-    ensures { IfOk result (λ all. all ≡ fold with_name rows (flat_map row_said (sentences_of (table_view root.now)))) }
+    ensures { IfOk result (λ all. all ≡ with_rows rows (sentences_of (table_view root.now))) }
 {
     let mut rows = rows;
     let methods = tables_at(alloc, root, "methods")?;
@@ -29,7 +29,7 @@ pub fn with_named_rows(alloc: Global, root: &Table, rows: Numbers) -> Result<Num
 /// Adds the rows that the bodies of methods, or of listeners, name.
 fn add_bodies(alloc: Global, rows: &mut Numbers, tables: &[&Table]) -> Result<(), NoMemory>
     ensures { OnOk result (rows.new ≡
-        fold with_name rows.old (flat_map row_said (flat_map (λ table. sentences_under (codes "body") (table_view table.now)) tables.now))) }
+        with_rows rows.old (flat_map (λ table. sentences_under (codes "body") (table_view table.now)) tables.now)) }
 {
     for table in tables {
         add_body(alloc, rows, table, "body")?;
@@ -40,7 +40,7 @@ fn add_bodies(alloc: Global, rows: &mut Numbers, tables: &[&Table]) -> Result<()
 /// Adds the rows that the callbacks of synchronisations name.
 fn add_callbacks(alloc: Global, rows: &mut Numbers, tables: &[&Table]) -> Result<(), NoMemory>
     ensures { OnOk result (rows.new ≡
-        fold with_name rows.old (flat_map row_said (flat_map (λ table. callback_sentences (table_view table.now)) tables.now))) }
+        with_rows rows.old (flat_map (λ table. callback_sentences (table_view table.now)) tables.now)) }
 {
     for table in tables {
         add_callback(alloc, rows, table)?;
@@ -49,7 +49,7 @@ fn add_callbacks(alloc: Global, rows: &mut Numbers, tables: &[&Table]) -> Result
 }
 
 fn add_callback(alloc: Global, rows: &mut Numbers, sync: &Table) -> Result<(), NoMemory>
-    ensures { OnOk result (rows.new ≡ fold with_name rows.old (flat_map row_said (callback_sentences (table_view sync.now)))) }
+    ensures { OnOk result (rows.new ≡ with_rows rows.old (callback_sentences (table_view sync.now))) }
 {
     add_body(alloc, rows, sync, "before_commit")?;
     add_body(alloc, rows, sync, "before_completion")?;
@@ -59,14 +59,14 @@ fn add_callback(alloc: Global, rows: &mut Numbers, sync: &Table) -> Result<(), N
 
 /// Adds the rows that the statements under a key name.
 fn add_body(alloc: Global, rows: &mut Numbers, table: &Table, key: &str) -> Result<(), NoMemory>
-    ensures { OnOk result (rows.new ≡ fold with_name rows.old (flat_map row_said (sentences_under key.now (table_view table.now)))) }
+    ensures { OnOk result (rows.new ≡ with_rows rows.old (sentences_under key.now (table_view table.now))) }
 {
     let sentences = sentences_at(alloc, table, key)?;
     add_rows(alloc, rows, sentences.as_slice())
 }
 
 fn add_rows(alloc: Global, rows: &mut Numbers, sentences: &[Sentence]) -> Result<(), NoMemory>
-    ensures { OnOk result (rows.new ≡ fold with_name rows.old (flat_map row_said sentences.now)) }
+    ensures { OnOk result (rows.new ≡ with_rows rows.old sentences.now) }
 {
     for sentence in sentences {
         add_row(alloc, rows, sentence)?;
