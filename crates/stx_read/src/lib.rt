@@ -1,6 +1,7 @@
 //! Reads a scenario from the bytes of a file, or says why they state none.
 #![tactic(auto)]
 
+mod document;
 mod fault;
 mod faults;
 mod leaf;
@@ -9,6 +10,7 @@ mod names;
 mod path;
 mod schema;
 mod sentence;
+mod walk;
 mod words;
 
 pub use fault::{Argument, Fault, ReadFault, Stage};
