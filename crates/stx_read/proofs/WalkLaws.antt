@@ -1,14 +1,12 @@
 -- The walk's loops step by step, and the walk of a table of each shape.
-use Rattle.std.proofs.Common.{◌≡◌, ℕ, suc, ◌+◌, ◌<◌, ◌≤◌, Bool, true, false, not, List, [], ◌∷◌, ◌++◌, length, map, drop, Option, Some, None, String, Global, Bor, string_bytes, BTreeMap, Vec, refl, sym, ap, ◌∙◌}
+use Rattle.std.proofs.Common.{◌≡◌, ℕ, suc, ◌≤◌, Bool, true, false, List, [], ◌∷◌, ◌++◌, length, map, drop, Option, Some, None, String, Global, string_bytes, BTreeMap, Vec, refl, sym, ap, ◌∙◌}
 use Rattle.std.proofs.lemmas.List.{drop_all, append_assoc, append-nil}
 use Rattle.std.proofs.lemmas.Bool.{and_parts, false≢true}
-use Rattle.std.specs.Prelude.{◌&&◌}
 use Rattle.std.specs.List.{flat_map, list_all, list_any}
 use Rattle.std.specs.Map.{keys_of as names_of}
-use Rattle.std.specs.Option.{option_map}
 use Rattle.std.specs.Str.{bytes_eq}
-use Rattle.toml.specs.Data.{Data, Items, Members, string, integer, float, boolean, datetime, array, table, as_array, get_member}
-use Rattle.toml.specs.View.{view, items_view, array_view, members_view, table_view}
+use Rattle.toml.specs.Data.{Data, Members, string, integer, float, boolean, datetime, array, table, as_array, get_member}
+use Rattle.toml.specs.View.{view, items_view, members_view, table_view}
 use Rattle.toml.specs.declared.value.Value.{Value}
 use Rattle.toml.specs.declared.value.Value.TheVariants.{Array, Table}
 use Rattle.toml.proofs.Views.{view-Array, view-Table}
