@@ -17,3 +17,6 @@ pub use fault::{Argument, Fault, ReadFault, Stage};
 pub use named::Named;
 pub use schema::{Field, Kind, Leaf, Shape};
 pub use sentence::{Matched, RuleSentence, Sentence};
+
+#[cfg(test)]
+mod tests;
