@@ -3,3 +3,8 @@ pub mod PartLaws
 pub mod DuplicateLaws
 pub mod NumberLaws
 pub mod RowLaws
+pub mod PathLaws
+pub mod SentenceLaws
+pub mod LeafLaws
+pub mod DocumentLaws
+pub mod WalkLaws

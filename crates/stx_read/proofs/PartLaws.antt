@@ -45,3 +45,6 @@ module _ {X D B : Type 0} (seen : X → D) (h : D → Option B) (xs : List X) (i
 pub mapped_all : {X D B : Type 0} (seen : X → D) (f : D → B) (xs : List X) (i : ℕ) (ds : List D) (bs : List B) → length xs ≤ i
     → map seen xs ≡ ds → bs ≡ map (λ x. f (seen x)) (take i xs) → bs ≡ map f ds
 mapped_all seen f xs i ds bs past all so_far = rw (← all, map-map f seen xs) (rw (take_all i xs past) at so_far)
+
+pub mapped_so : {X D B : Type 0} (seen : X → D) (f : D → B) (xs : List X) (ds : List D) → map seen xs ≡ ds → map (λ x. f (seen x)) xs ≡ map f ds
+mapped_so seen f xs ds all = rw (← all, map-map f seen xs)

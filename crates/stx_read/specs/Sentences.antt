@@ -28,8 +28,12 @@ abbrev pub two_names : List (List ℕ) → Option (List ℕ × List ℕ)
 two_names (bean ∷ method ∷ []) = option_and_then (λ b. option_map (λ m. (b, m)) (name_in method)) (name_in bean)
 two_names _ = None
 
+-- the parts of a text between dots
+abbrev pub parts_of : List ℕ → List (List ℕ)
+parts_of text = slice_split (λ c. c == 46) text
+
 abbrev pub method_in : List ℕ → Option (List ℕ × List ℕ)
-method_in text = two_names (slice_split (λ c. c == 46) text)
+method_in text = two_names (parts_of text)
 
 -- ---- statements
 

@@ -1,6 +1,7 @@
 // The faults that a walk meets, and which of them is the refusal.
-ghost use Rattle.std.specs.Prelude.{◌≡◌, ◌++◌, IfOk, OnOk, Some};
-ghost use Rattle.stx_read.specs.Faults.{refused, first_at as first_of_stage, refusal_at as refusal_of};
+ghost use Rattle.std.specs.Prelude.{◌≡◌, ◌++◌, IfOk, OnOk, Some, find};
+ghost use Rattle.std.specs.Option.{option_copied};
+ghost use Rattle.stx_read.specs.Faults.{refused, is_stage, first_at as first_of_stage, refusal_at as refusal_of};
 
 use crate::fault::{Argument, Fault, ReadFault, Stage};
 use std::alloc::Global;
@@ -22,13 +23,25 @@ pub fn first_at(
 ) -> Result<Option<ReadFault>, NoMemory>
     ensures { IfOk result (λ first. first ≡ first_of_stage stage faults.now) }
 {
-    match faults.iter().find(|fault| fault.stage == stage) {
+    match first_fault(stage, faults) {
         Some(fault) => {
             let path = Argument::from_text(String::from_str(alloc, fault.path.as_str())?);
             Ok(Some(refusal_at(stage, path)))
         }
         None => Ok(None),
     }
+}
+
+fn first_fault(stage: Stage, faults: &[Fault]) -> Option<&Fault>
+    ensures { option_copied result ≡ find (λ fault. is_stage stage fault.stage) faults.now }
+{
+    faults.iter().find(|fault| is_same(stage, fault.stage))
+}
+
+fn is_same(stage: Stage, other: Stage) -> bool
+    ensures { result ≡ is_stage stage other }
+{
+    stage == other
 }
 
 fn refusal_at(stage: Stage, path: Argument) -> ReadFault

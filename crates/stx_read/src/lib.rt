@@ -1,10 +1,12 @@
 //! Reads a scenario from the bytes of a file, or says why they state none.
 #![tactic(auto)]
 
+mod document;
 mod draft;
 mod duplicates;
 mod fault;
 mod faults;
+mod leaf;
 mod named;
 mod names;
 mod numbered;
@@ -13,9 +15,13 @@ mod parts;
 mod path;
 mod schema;
 mod sentence;
+mod walk;
 mod words;
 
 pub use fault::{Argument, Fault, ReadFault, Stage};
 pub use named::Named;
 pub use schema::{Field, Kind, Leaf, Shape};
 pub use sentence::{Matched, RuleSentence, Sentence};
+
+#[cfg(test)]
+mod tests;

@@ -1,11 +1,11 @@
 // What a statement or a rule says by names, before these are looked up.
-ghost use Rattle.std.specs.Prelude.{◌≡◌, ◌==◌, IfOk, map, Some, None, option_map};
-ghost use Rattle.std.specs.List.{slice_split};
-ghost use Rattle.stx_read.specs.Sentences.{words_of, name_in as name_of, class_in as class_of, pattern_in as pattern_of, method_in as method_of};
+ghost use Rattle.std.specs.Prelude.{◌≡◌, IfOk, map, Some, None, option_map, option_and_then};
+ghost use Rattle.stx_read.specs.Sentences.{words_of, parts_of, name_in as name_of, class_in as class_of, pattern_in as pattern_of, method_in as method_of};
 ghost use Rattle.stx_read.specs.Sentences.{alone as alone_of, about as about_of, with_value as valued, catching as catching_of, with_catch as caught, sentence_in as sentence_of};
 ghost use Rattle.stx_read.specs.Sentences.{call_of};
 ghost use Rattle.stx_read.specs.declared.sentence.Sentence.{Sentence as SentenceData};
-ghost use Rattle.stx_read.specs.Sentences.{matched_in as matched_of, decision_in as decision_of, rule_in as rule_of};
+ghost use Rattle.stx_read.specs.declared.sentence.Matched.{Matched as MatchedData};
+ghost use Rattle.stx_read.specs.Sentences.{matched_in as matched_of, decision_in as decision_of, rule_with, rule_in as rule_of};
 
 use crate::names::{is_class, is_name, is_pattern, number_in};
 use std::alloc::{AllocError, Global};
@@ -49,12 +49,13 @@ pub enum Matched {
 }
 
 /// The statement that a text is.
-#[tactic(auto, unfolding(crate::specs::Sentences::sentence_in))]
+#[tactic(auto, using(crate::proofs::SentenceLaws::no_sentence), unfolding(crate::specs::Sentences::sentence_in))]
 pub fn sentence_in(alloc: Global, text: &str) -> Result<Option<Sentence>, NoMemory>
     ensures { IfOk result (λ said. said ≡ sentence_of text.now) }
 {
     let words = split_words(alloc, text)?;
     match words.as_slice() {
+        [] => Ok(None),
         [verb] => Ok(alone(verb)),
         [verb, object] => about(alloc, verb, object),
         [verb, row, value] => with_value(alloc, verb, row, value),
@@ -64,21 +65,15 @@ pub fn sentence_in(alloc: Global, text: &str) -> Result<Option<Sentence>, NoMemo
 }
 
 /// The rule that a text is.
-#[tactic(auto, unfolding(crate::specs::Sentences::rule_in))]
+#[tactic(auto, using(crate::proofs::SentenceLaws::no_rule, crate::proofs::SentenceLaws::two_words))]
 pub fn rule_in(alloc: Global, text: &str) -> Result<Option<RuleSentence>, NoMemory>
     ensures { IfOk result (λ said. said ≡ rule_of text.now) }
 {
     let words = split_words(alloc, text)?;
-    let [verb, object] = words.as_slice() else {
+    if words.len() != 2 {
         return Ok(None);
-    };
-    let Some(rollback) = decision_in(verb) else {
-        return Ok(None);
-    };
-    let Some(by) = matched_in(alloc, object)? else {
-        return Ok(None);
-    };
-    Ok(Some(RuleSentence { rollback, by }))
+    }
+    rule_about(alloc, words[0], words[1])
 }
 
 /// The words of a text, each apart from the next by one space.
@@ -152,9 +147,20 @@ fn with_catch(
     if word != "catch" {
         return Ok(None);
     }
-    let Some(class) = class_in(alloc, class)? else {
-        return Ok(None);
-    };
+    match class_in(alloc, class)? {
+        Some(class) => catching(alloc, verb, object, class),
+        None => Ok(None),
+    }
+}
+
+fn catching(
+    alloc: Global,
+    verb: &str,
+    object: &str,
+    class: Name,
+) -> Result<Option<Sentence>, NoMemory>
+    ensures { IfOk result (λ said. said ≡ catching_of verb.now object.now class) }
+{
     match verb {
         "call" => call(alloc, object, Some(class)),
         "this" => this(alloc, object, Some(class)),
@@ -214,17 +220,18 @@ fn pattern_in(alloc: Global, text: &str) -> Result<Option<Name>, NoMemory>
 }
 
 /// The bean and the method that `BEAN.METHOD` names.
+#[tactic(auto, using(crate::proofs::SentenceLaws::no_method, crate::proofs::SentenceLaws::two_parts))]
 pub fn method_in(alloc: Global, text: &str) -> Result<Option<(Name, Name)>, NoMemory>
     ensures { IfOk result (λ method. method ≡ method_of text.now) }
 {
     let parts = split_parts(alloc, text)?;
-    let [bean, method] = parts.as_slice() else {
+    if parts.len() != 2 {
+        return Ok(None);
+    }
+    let Some(bean) = name_in(alloc, parts[0])? else {
         return Ok(None);
     };
-    let Some(bean) = name_in(alloc, bean)? else {
-        return Ok(None);
-    };
-    let Some(method) = name_in(alloc, method)? else {
+    let Some(method) = name_in(alloc, parts[1])? else {
         return Ok(None);
     };
     Ok(Some((bean, method)))
@@ -232,12 +239,25 @@ pub fn method_in(alloc: Global, text: &str) -> Result<Option<(Name, Name)>, NoMe
 
 /// The parts of a text between dots.
 fn split_parts<'a>(alloc: Global, text: &'a str) -> Result<Vec<&'a str>, AllocError>
-    ensures { IfOk result (λ parts. map (λ part. part.now) parts.items ≡ slice_split (λ c. c == 46) text.now) }
+    ensures { IfOk result (λ parts. map (λ part. part.now) parts.items ≡ parts_of text.now) }
 {
     text.split('.').collect(alloc)
 }
 
 // ---- rules
+
+/// The rule of a word and the classes that it is about.
+fn rule_about(alloc: Global, verb: &str, object: &str) -> Result<Option<RuleSentence>, NoMemory>
+    ensures { IfOk result (λ said. said ≡ option_and_then (rule_with object.now) (decision_of verb.now)) }
+{
+    let Some(rollback) = decision_in(verb) else {
+        return Ok(None);
+    };
+    let Some(by) = matched_in(alloc, object)? else {
+        return Ok(None);
+    };
+    Ok(Some(RuleSentence { rollback, by }))
+}
 
 /// What a rule's first word decides: whether to roll back.
 fn decision_in(verb: &str) -> Option<bool>
@@ -256,6 +276,12 @@ fn matched_in(alloc: Global, text: &str) -> Result<Option<Matched>, NoMemory>
 {
     match text.strip_prefix('~') {
         Some(pattern) => Ok(pattern_in(alloc, pattern)?.map(Matched::Pattern)),
-        None => Ok(class_in(alloc, text)?.map(Matched::Class)),
+        None => by_class(alloc, text),
     }
+}
+
+fn by_class(alloc: Global, text: &str) -> Result<Option<Matched>, NoMemory>
+    ensures { IfOk result (λ matched. matched ≡ option_map MatchedData.Class (class_of text.now)) }
+{
+    Ok(class_in(alloc, text)?.map(Matched::Class))
 }

@@ -10,13 +10,13 @@ pub loop-text-preserved : goal.loop-text-preserved
 loop-text-preserved c =
     elim c.match-branch-3.branch [
       | in-Some+in_ok-push w ↦
-        rw (w.rules-is, w.in_ok-push.ensures.ok, w.rule_of.ensures)
-            (made_more (λ text. text.now) rule_in c.as_slice-text-items.result.now c.loop-text.text-index (rule_of c.args.names.now) _ _ _ w.in-Some.rule c.loop-text-test.true refl
-            (sym c.in_ok-rule.ensures ∙ w.in-Some.is) c.loop-text.invariant)
+          rw (w.rules-is, w.in_ok-push.ensures.ok, w.rule_of.ensures)
+          (made_more (λ text. text.now) rule_in c.as_slice-text-items.result.now c.loop-text.text-index (rule_of c.args.names.now) _ _ _ w.in-Some.rule c.loop-text-test.true refl
+          (sym c.in_ok-rule.ensures ∙ w.in-Some.is) c.loop-text.invariant)
       | in_default w ↦
-        rw w.rules-is
-            (made_same (λ text. text.now) rule_in c.as_slice-text-items.result.now c.loop-text.text-index (rule_of c.args.names.now) _ _ _ c.loop-text-test.true refl
-            (sym c.in_ok-rule.ensures ∙ w.in_default.is) c.loop-text.invariant)
+          rw w.rules-is
+          (made_same (λ text. text.now) rule_in c.as_slice-text-items.result.now c.loop-text.text-index (rule_of c.args.names.now) _ _ _ c.loop-text-test.true refl
+          (sym c.in_ok-rule.ensures ∙ w.in_default.is) c.loop-text.invariant)
     ]
 
 pub returns : goal.returns
