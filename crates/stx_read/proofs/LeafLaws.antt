@@ -1,5 +1,5 @@
 -- What is refused in a single value, by what it is.
-use Rattle.std.proofs.Common.{◌≡◌, ℕ, ℤ, Bool, true, false, List, Option, Some, None, Bor, refl}
+use Rattle.std.proofs.Common.{◌≡◌, ℕ, ℤ, true, false, List, Some, None, Bor, refl}
 use Rattle.std.specs.Option.{option_copied, is_some}
 use Rattle.toml.specs.Data.{Data, string, integer, float, boolean, datetime, array, table, as_str, as_integer, as_bool}
 use Rattle.stx_read.specs.declared.fault.Stage.{Stage}

@@ -1,3 +1,6 @@
+pub mod NumbersLaws
+pub mod PartLaws
+pub mod DuplicateLaws
 pub mod NumberLaws
 pub mod FaultLaws
 pub mod QuietLaws
@@ -7,6 +10,9 @@ pub mod SearchLaws
 pub mod ParentLaws
 pub mod CallLaws
 pub mod JudgeLaws
+pub mod RowLaws
 pub mod PathLaws
 pub mod SentenceLaws
 pub mod LeafLaws
+pub mod DocumentLaws
+pub mod WalkLaws

@@ -23,7 +23,7 @@ use Rattle.stx_scenario.specs.declared.scenario.Listener.{Listener}
 use Rattle.stx_scenario.specs.declared.scenario.Phase.{Phase}
 use Rattle.stx_scenario.specs.declared.scenario.Stmt.{Stmt}
 use Rattle.stx_scenario.specs.BuiltIn.{built_in}
-use Rattle.stx_read.specs.declared.named.Named.{Named}
+use Rattle.stx_read.specs.declared.numbered.Numbered.{Numbered}
 use Rattle.stx_read.specs.declared.sentence.Sentence.{Sentence}
 use Rattle.stx_read.specs.declared.sentence.RuleSentence.{RuleSentence}
 use Rattle.stx_read.specs.declared.sentence.Matched.{Matched}
@@ -66,13 +66,24 @@ row_said _ = []
 abbrev pub with_name : List (List ℕ) → List ℕ → List (List ℕ)
 with_name names name = if has_name names name then names else names ++ name ∷ []
 
--- the rows of the rows section, and then those that only statements name, by their first naming
-abbrev pub row_names_in : Members → List (List ℕ)
-row_names_in root = fold with_name (names_in root).rows (flat_map row_said (sentences_of root))
+-- rows, and after them those that statements name, by their first naming
+abbrev pub with_rows : List (List ℕ) → List Sentence → List (List ℕ)
+with_rows rows sentences = fold with_name rows (flat_map row_said sentences)
 
--- all names in the order of their numbers: also the built-in classes, and the rows that only statements name
-abbrev pub all_names : Members → Named
-all_names root = record (names_in root) { rows = row_names_in root; classes = built_in_names ++ (names_in root).classes }
+-- the rows of the rows section, and then those that only statements name
+abbrev pub row_names_in : Members → List (List ℕ)
+row_names_in root = with_rows (names_in root).rows (sentences_of root)
+
+-- all names that are looked up, in the order of their numbers: also the built-in classes, and the rows that only statements name
+abbrev pub all_names : Members → Numbered
+all_names root = record {
+  events = (names_in root).events;
+  rows = row_names_in root;
+  classes = built_in_names ++ (names_in root).classes;
+  beans = (names_in root).beans;
+  methods = (names_in root).methods;
+  syncs = (names_in root).syncs;
+}
 
 -- the number of nothing: no list is so long
 abbrev pub nothing : ℕ
@@ -81,28 +92,28 @@ nothing = 4294967295
 abbrev pub number_of : List (List ℕ) → List ℕ → ℕ
 number_of names name = unwrap_or (position (λ n. bytes_eq n name) names) nothing
 
-abbrev pub class_no : Named → List ℕ → ClassNo
+abbrev pub class_no : Numbered → List ℕ → ClassNo
 class_no names class = record { 0 = number_of names.classes class }
 
-abbrev pub row_no : Named → List ℕ → RowNo
+abbrev pub row_no : Numbered → List ℕ → RowNo
 row_no names row = record { 0 = number_of names.rows row }
 
 -- a method of a bean that is there
-abbrev pub method_no : Named → List ℕ × List ℕ → MethodNo
+abbrev pub method_no : Numbered → List ℕ × List ℕ → MethodNo
 method_no names (bean, method) =
     record { 0 = if has_name names.beans bean then number_of names.methods (method_text bean method) else nothing }
 
 -- a method of the bean whose method holds the statement; in a callback there is no such bean
-abbrev pub own_method_no : Named → Option (List ℕ) → List ℕ → MethodNo
+abbrev pub own_method_no : Numbered → Option (List ℕ) → List ℕ → MethodNo
 own_method_no names (Some bean) method = record { 0 = number_of names.methods (method_text bean method) }
 own_method_no names None method = record { 0 = nothing }
 
-abbrev pub catch_no : Named → Option (List ℕ) → Option ClassNo
+abbrev pub catch_no : Numbered → Option (List ℕ) → Option ClassNo
 catch_no names catch = option_map (class_no names) catch
 
 -- ---- statements and rules
 
-abbrev pub stated : Named → Option (List ℕ) → Sentence → Stmt
+abbrev pub stated : Numbered → Option (List ℕ) → Sentence → Stmt
 stated names bean (Sentence.Read row) = Stmt.Read (row_no names row)
 stated names bean (Sentence.Write row v) = Stmt.Write (row_no names row) v
 stated names bean (Sentence.Erase row) = Stmt.Erase (row_no names row)
@@ -116,14 +127,14 @@ stated names bean (Sentence.Publish event) = Stmt.Publish (record { 0 = number_o
 stated names bean (Sentence.Register sync) = Stmt.Register (record { 0 = number_of names.syncs sync })
 
 -- the statements under a key
-abbrev pub body_at : Named → Option (List ℕ) → List ℕ → Members → List Stmt
+abbrev pub body_at : Numbered → Option (List ℕ) → List ℕ → Members → List Stmt
 body_at names bean key table = map (stated names bean) (sentences_at key table)
 
-abbrev pub matched_by : Named → Matched → RuleBy
+abbrev pub matched_by : Numbered → Matched → RuleBy
 matched_by names (Matched.Class class) = RuleBy.Class (class_no names class)
 matched_by names (Matched.Pattern pattern) = RuleBy.Pattern pattern
 
-abbrev pub rule_of : Named → RuleSentence → Rule
+abbrev pub rule_of : Numbered → RuleSentence → Rule
 rule_of names rule = record { rollback = rule.rollback; by = matched_by names rule.by }
 
 -- ---- tables
@@ -153,24 +164,24 @@ settings_in table = record {
 abbrev pub settings_of : Members → Settings
 settings_of root = unwrap_or (option_map settings_in (table_at (codes "settings") root)) default_settings
 
-abbrev pub tx_in : Named → Members → TxAttr
+abbrev pub tx_in : Numbered → Members → TxAttr
 tx_in names table = record {
   propagation = unwrap_or (propagation_in (text_at (codes "propagation") table)) Propagation.Required;
   read_only = flag_at (codes "read_only") false table;
   rules = map (rule_of names) (filter_map rule_in (texts_at (codes "rules") table));
 }
 
-abbrev pub tx_at : Named → Members → Option TxAttr
+abbrev pub tx_at : Numbered → Members → Option TxAttr
 tx_at names table = option_map (tx_in names) (table_at (codes "tx") table)
 
-abbrev pub class_in : Named → Members → ClassDecl
+abbrev pub class_in : Numbered → Members → ClassDecl
 class_in names table =
     record { name = text_at (codes "name") table; parent = Some (class_no names (text_at (codes "parent") table)) }
 
-abbrev pub bean_in : Named → Members → Bean
+abbrev pub bean_in : Numbered → Members → Bean
 bean_in names table = record { name = text_at (codes "name") table; tx = tx_at names table }
 
-abbrev pub method_in_table : Named → Members → Method
+abbrev pub method_in_table : Numbered → Members → Method
 method_in_table names table = record {
   bean = record { 0 = number_of names.beans (text_at (codes "bean") table) };
   name = text_at (codes "name") table;
@@ -178,7 +189,7 @@ method_in_table names table = record {
   body = body_at names (Some (text_at (codes "bean") table)) (codes "body") table;
 }
 
-abbrev pub sync_in : Named → Members → SyncDecl
+abbrev pub sync_in : Numbered → Members → SyncDecl
 sync_in names table = record {
   name = text_at (codes "name") table;
   order = order_at table;
@@ -188,7 +199,7 @@ sync_in names table = record {
   after_completion = body_at names None (codes "after_completion") table;
 }
 
-abbrev pub listener_in : Named → Members → Listener
+abbrev pub listener_in : Numbered → Members → Listener
 listener_in names table = record {
   name = text_at (codes "name") table;
   event = record { 0 = number_of names.events (text_at (codes "event") table) };
@@ -199,11 +210,11 @@ listener_in names table = record {
 }
 
 -- a call that isn't BEAN.METHOD calls nothing
-abbrev pub called_no : Named → Option (List ℕ × List ℕ) → MethodNo
+abbrev pub called_no : Numbered → Option (List ℕ × List ℕ) → MethodNo
 called_no names (Some call) = method_no names call
 called_no names None = record { 0 = nothing }
 
-abbrev pub calls_in : Named → Members → List MethodNo
+abbrev pub calls_in : Numbered → Members → List MethodNo
 calls_in names table = map (λ text. called_no names (method_in text)) (texts_at (codes "calls") table)
 
 -- ---- the scenario
