@@ -1,5 +1,7 @@
 // The built-in classes: their numbers, names and parents, in one list.
 ghost use Rattle.std.specs.Prelude.{◌≡◌, IfOk, map, Some};
+ghost use Rattle.std.specs.List.{list_any};
+ghost use Rattle.std.specs.Str.{bytes_eq};
 ghost use Rattle.stx_scenario.specs.BuiltIn.{built_in, constants, name_of, declaration};
 
 use crate::{ClassDecl, ClassNo, List, Name, NoMemory};
@@ -143,6 +145,19 @@ pub fn built_in_classes(alloc: Global) -> Result<List<ClassDecl>, NoMemory>
     ensures constants { map name_of constants ≡ map (λ class. Some class.name) built_in }
 {
     declarations(alloc, &BUILT_IN)
+}
+
+/// Whether a built-in class has this name.
+pub fn is_built_in(name: &str) -> bool
+    ensures { result ≡ list_any (λ class. bytes_eq class.name name.now) built_in }
+{
+    has_name(&BUILT_IN, name)
+}
+
+fn has_name(table: &[BuiltIn], name: &str) -> bool
+    ensures { result ≡ list_any (λ class. bytes_eq class.name.now name.now) table.now }
+{
+    table.iter().any(|class| class.name == name)
 }
 
 fn declarations(alloc: Global, table: &[BuiltIn]) -> Result<List<ClassDecl>, NoMemory>

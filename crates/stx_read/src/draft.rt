@@ -1,0 +1,106 @@
+// The scenario that a document states: names become numbers, and a name of nothing becomes a number that nothing has.
+ghost use Rattle.std.specs.Prelude.{◌≡◌, ◌++◌, ◌<◌, ◌^◌, [], IfOk, None, map, length, codes, pos};
+ghost use Rattle.toml.specs.View.{table_view};
+ghost use Rattle.stx_read.specs.Duplicates.{duplicate_from, duplicate_among, names_in as names_of_document};
+ghost use Rattle.stx_read.specs.Draft.{all_names, drafted as drafted_of, natural as natural_of};
+ghost use Rattle.stx_read.specs.Parts.{numbers_at as numbers_of, tables_at as tables_of, number_at as number_of};
+
+mod rows;
+mod settings;
+mod statements;
+mod tables;
+mod tx;
+
+use crate::duplicates::{built_in_numbers, with_names};
+use crate::named::names_in;
+use crate::numbered::Numbered;
+use crate::numbers::Numbers;
+use crate::parts::{number_at, numbers_at, tables_at};
+use rows::with_named_rows;
+use settings::{natural, settings_of};
+use std::alloc::Global;
+use stx_scenario::{List, Name, NoMemory, Scenario, built_in_classes};
+use tables::{Drafted, draft_each};
+use toml::Table;
+
+/// The scenario that a document states, whose names all differ.
+pub fn drafted(alloc: Global, root: &Table) -> Result<Scenario, NoMemory>
+    requires { duplicate_among (names_of_document (table_view root.now)) ≡ None }
+    ensures drafted { IfOk result (λ scenario. scenario ≡ drafted_of (table_view root.now)) }
+    ensures few_rows { IfOk result (λ scenario. length scenario.row_names < 2 ^ 32) }
+{
+    let names = all_names_in(alloc, root)?;
+    Ok(Scenario {
+        settings: settings_of(root),
+        events: names.events.names(alloc)?,
+        schedule: schedule_in(alloc, root)?,
+        row_names: names.rows.names(alloc)?,
+        values: values_in(alloc, root)?,
+        classes: tables_of_array(alloc, root, "classes", &names, built_in_classes(alloc)?)?,
+        beans: tables_of_array(alloc, root, "beans", &names, List::new(alloc))?,
+        methods: tables_of_array(alloc, root, "methods", &names, List::new(alloc))?,
+        syncs: tables_of_array(alloc, root, "syncs", &names, List::new(alloc))?,
+        listeners: tables_of_array(alloc, root, "listeners", &names, List::new(alloc))?,
+        clients: tables_of_array(alloc, root, "clients", &names, List::new(alloc))?,
+    })
+}
+
+/// The names of a document with their numbers.
+fn all_names_in(alloc: Global, root: &Table) -> Result<Numbered, NoMemory>
+    requires { duplicate_among (names_of_document (table_view root.now)) ≡ None }
+    ensures { IfOk result (λ names. names ≡ all_names (table_view root.now)) }
+{
+    let named = names_in(alloc, root)?;
+    let rows = declared(alloc, named.rows.as_slice())?;
+    Ok(Numbered {
+        events: declared(alloc, named.events.as_slice())?,
+        rows: with_named_rows(alloc, root, rows)?,
+        classes: with_names(alloc, built_in_numbers(alloc)?, named.classes.as_slice())?,
+        beans: declared(alloc, named.beans.as_slice())?,
+        methods: declared(alloc, named.methods.as_slice())?,
+        syncs: declared(alloc, named.syncs.as_slice())?,
+    })
+}
+
+fn declared(alloc: Global, names: &[Name]) -> Result<Numbers, NoMemory>
+    requires { duplicate_from [] 0 names.now ≡ None }
+    ensures { IfOk result (λ numbers. numbers ≡ names.now) }
+{
+    with_names(alloc, Numbers::new(alloc), names)
+}
+
+/// What the tables of an array state, after what is there already.
+fn tables_of_array<T: Drafted + Drop>(
+    alloc: Global,
+    root: &Table,
+    array: &str,
+    names: &Numbered,
+    before: List<T>,
+) -> Result<List<T>, NoMemory>
+    ensures { IfOk result (λ all. all ≡ before ++ map (T.stated names.now) (tables_of array.now (table_view root.now))) }
+{
+    let tables = tables_at(alloc, root, array)?;
+    draft_each(alloc, names, tables.as_slice(), before)
+}
+
+fn schedule_in(alloc: Global, root: &Table) -> Result<List<u32>, NoMemory>
+    ensures { IfOk result (λ turns. turns ≡ map natural_of (numbers_of (codes "schedule") (table_view root.now))) }
+{
+    let numbers = numbers_at(alloc, root, "schedule")?;
+    let mut turns = List::new(alloc);
+    for number in numbers.as_slice() {
+        turns.push(natural(*number))?;
+    }
+    Ok(turns)
+}
+
+fn values_in(alloc: Global, root: &Table) -> Result<List<i64>, NoMemory>
+    ensures { IfOk result (λ values. values ≡ map (number_of (codes "value") (pos 0)) (tables_of (codes "rows") (table_view root.now))) }
+{
+    let rows = tables_at(alloc, root, "rows")?;
+    let mut values = List::new(alloc);
+    for row in rows.as_slice() {
+        values.push(number_at(row, "value", 0))?;
+    }
+    Ok(values)
+}

@@ -1,0 +1,58 @@
+// Whether a scenario that is a value is valid, and else why it isn't.
+ghost use Rattle.std.specs.Prelude.{◌≡◌, ◌≢◌, ◌<◌, ◌^◌, length, take, Some, None, IfOk, IfErr, OnOk};
+ghost use Rattle.stx_scenario.specs.BuiltIn.{built_in};
+ghost use Rattle.stx_read.specs.declared.fault.ReadFault.{ReadFault as Fault};
+ghost use Rattle.stx_read.specs.Judge.{judged as refusal_of, IsShaped};
+
+mod arrays;
+mod callbacks;
+mod calls;
+mod classes;
+mod parts;
+mod places;
+mod references;
+mod stages;
+mod statements;
+mod texts;
+
+use crate::fault::ReadFault;
+use callbacks::callback_fault;
+use calls::call_fault;
+use classes::class_tree;
+use stages::place_fault;
+use std::alloc::Global;
+use stx_scenario::{NoMemory, Scenario};
+
+/// Whether a scenario is valid: the first stage that refuses anything, at its first place, is the refusal.
+pub fn judge(alloc: Global, scenario: &Scenario) -> Result<(), ReadFault>
+    requires { IsShaped scenario.now }
+    ensures ok { OnOk result (refusal_of scenario.now ≡ None) }
+    ensures refused { IfErr result (λ fault. fault ≢ Fault.NoMemory → refusal_of scenario.now ≡ Some fault) }
+{
+    match judged(alloc, scenario) {
+        Ok(None) => Ok(()),
+        Ok(Some(fault)) => Err(fault),
+        Err(NoMemory) => Err(ReadFault::NoMemory),
+    }
+}
+
+/// The refusal of a scenario, of which only what the stages need is asked.
+pub(crate) fn judged(alloc: Global, scenario: &Scenario) -> Result<Option<ReadFault>, NoMemory>
+    requires built_in { take (length built_in) scenario.now.classes ≡ built_in }
+    requires few_classes { length scenario.now.classes < 2 ^ 32 }
+    requires few_methods { length scenario.now.methods < 2 ^ 32 }
+    ensures { IfOk result (λ fault. fault ≡ refusal_of scenario.now) }
+{
+    if let Some(fault) = place_fault(alloc, scenario)? {
+        return Ok(Some(fault));
+    }
+    let tree = match class_tree(alloc, scenario) {
+        Ok(tree) => tree,
+        Err(ReadFault::NoMemory) => return Err(NoMemory),
+        Err(fault) => return Ok(Some(fault)),
+    };
+    if let Some(fault) = callback_fault(alloc, scenario, &tree)? {
+        return Ok(Some(fault));
+    }
+    call_fault(alloc, scenario)
+}

@@ -1,0 +1,38 @@
+// The tree of the classes, or why they make none.
+ghost use Rattle.std.specs.Prelude.{◌≡◌, ◌≢◌, ◌<◌, ◌^◌, length, take, Some, IfOk, IfErr, OnOk};
+ghost use Rattle.stx_scenario.specs.BuiltIn.{built_in};
+ghost use Rattle.stx_model.specs.Classes.{parents_of};
+ghost use Rattle.stx_classes.specs.Tree.{IsTree};
+ghost use Rattle.stx_read.specs.declared.fault.ReadFault.{ReadFault as Fault};
+ghost use Rattle.stx_read.specs.Order.{PlacesInOrder};
+ghost use Rattle.stx_read.specs.Stages.{class_refusal};
+
+use crate::fault::ReadFault;
+use crate::judging::texts::class_name;
+use std::alloc::Global;
+use stx_classes::{ClassFault, ClassTree};
+use stx_scenario::Scenario;
+
+/// The tree of a scenario's classes, each of which has a parent.
+pub fn class_tree(alloc: Global, scenario: &Scenario) -> Result<ClassTree, ReadFault>
+    requires built_in { take (length built_in) scenario.now.classes ≡ built_in }
+    requires few { length scenario.now.classes < 2 ^ 32 }
+    requires order { PlacesInOrder scenario.now }
+    ensures tree { IfOk result (λ tree. tree ≡ parents_of scenario.now.classes) }
+    ensures sound { OnOk result (IsTree scenario.now.classes) }
+    ensures refused { IfErr result (λ fault. fault ≢ Fault.NoMemory → class_refusal scenario.now ≡ Some fault) }
+{
+    match ClassTree::build(alloc, &scenario.classes) {
+        Ok(tree) => Ok(tree),
+        Err(ClassFault::UnknownParent(_)) => unreachable!(),
+        Err(ClassFault::Cycle(class)) => {
+            let class = class_name(alloc, scenario, class)?;
+            Err(ReadFault::ClassCycle(class))
+        }
+        Err(ClassFault::TooDeep(class)) => {
+            let class = class_name(alloc, scenario, class)?;
+            Err(ReadFault::ClassDepth(class))
+        }
+        Err(ClassFault::NoMemory) => Err(ReadFault::NoMemory),
+    }
+}

@@ -1,0 +1,36 @@
+// The stages that look at single places and at names, one after the other.
+ghost use Rattle.std.specs.Prelude.{◌≡◌, IfOk};
+ghost use Rattle.stx_read.specs.Stages.{place_refusal};
+
+use crate::duplicates::duplicate_among;
+use crate::fault::{ReadFault, Stage};
+use crate::faults::first_at;
+use crate::judging::arrays::scenario_faults;
+use crate::named::names_of;
+use std::alloc::Global;
+use stx_scenario::{NoMemory, Scenario};
+
+/// The refusal of the stages up to the look-up of names.
+pub fn place_fault(alloc: Global, scenario: &Scenario) -> Result<Option<ReadFault>, NoMemory>
+    ensures { IfOk result (λ fault. fault ≡ place_refusal scenario.now) }
+{
+    let faults = scenario_faults(alloc, scenario)?;
+    let faults = faults.as_slice();
+    if let Some(fault) = first_at(alloc, Stage::BadName, faults)? {
+        return Ok(Some(fault));
+    }
+    if let Some(fault) = first_at(alloc, Stage::OutOfRange, faults)? {
+        return Ok(Some(fault));
+    }
+    if let Some(fault) = first_at(alloc, Stage::TooMany, faults)? {
+        return Ok(Some(fault));
+    }
+    let names = names_of(alloc, scenario)?;
+    if let Some(fault) = duplicate_among(alloc, &names)? {
+        return Ok(Some(fault));
+    }
+    if let Some(fault) = first_at(alloc, Stage::BadWord, faults)? {
+        return Ok(Some(fault));
+    }
+    first_at(alloc, Stage::UnknownRef, faults)
+}

@@ -1,0 +1,3 @@
+// What the pieces of the reader answer, by tables of cases.
+mod sentences;
+mod walks;
