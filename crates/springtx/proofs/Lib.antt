@@ -1,6 +1,3 @@
-pub mod NumberLaws
-pub mod StatementLaws
-pub mod ReadingLaws
-pub mod ItemLaws
-pub mod ReadingBuilt
 pub mod ToolLaws
+pub mod PlayableLaws
+pub mod ValidLaws

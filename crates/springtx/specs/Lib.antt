@@ -1,7 +1,2 @@
-pub mod Names
-pub mod Items
-pub mod Statements
-pub mod Reading
-pub mod Built
-pub mod Jobs
+pub mod NotYet
 pub mod Tool

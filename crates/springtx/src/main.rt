@@ -1,24 +1,20 @@
-//! Plays a scenario of Spring's declarative transactions on one thread, and prints its report.
+//! Reads a scenario of Spring's declarative transactions, and plays or checks it on one thread.
 #![tactic(auto)]
 
 mod answer;
-mod fault;
-mod names;
-mod reader;
-mod statements;
+mod not_yet;
 #[cfg(test)]
 mod tests;
 mod tool;
 
-pub use fault::ReadFault;
 use std::alloc::Global;
 use std::env;
 use std::io::ErrorKind;
 use std::process::ExitCode;
 use std::rt::Env;
 use stx_outside::{StdSink, StdSource};
+pub use tool::tool;
 use tool::{USAGE, WANT_OF_MEMORY};
-pub use tool::{Job, read_words, tool};
 
 fn main(rt: HostRuntime) -> ExitCode {
     let alloc = rt.alloc();

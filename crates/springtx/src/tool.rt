@@ -1,20 +1,14 @@
 // The tool, over any source and any sink.
-ghost use Rattle.std.specs.Prelude.{◌≡◌, ◌≢◌, ◌⊎◌, ◌↔◌, IsTrue, None, IsNone};
+ghost use Rattle.std.specs.Prelude.{◌≡◌, ◌≢◌, ◌⊎◌, List, ℕ, IsTrue, None, Some, IsNone};
 ghost use Rattle.stx_outside.specs.Streams.{Rose, GainsEnd, GainsPrefix, LosesMore, LosesWithin};
-ghost use Rattle.springtx.specs.Jobs.{job_of};
-ghost use Rattle.springtx.specs.Tool.{is_status, is_early, most_bytes, IsPlayed, IsRefused};
+ghost use Rattle.stx_words.specs.Jobs.{job_of};
+ghost use Rattle.springtx.specs.Tool.{is_status, is_early, most_bytes, IsAnswered, IsDone, IsRefused, IsCutShort, IsAccepted};
 
 use crate::answer::{Answer, answer_to};
 use std::alloc::Global;
 use stx_model::{Report, ToolEnd};
 use stx_outside::{ReadEnd, Sink, Source, read_whole, write_whole};
-
-/// What the words of a call ask for.
-#[derive(Clone, Copy, Debug, PartialEq, Eq)]
-pub enum Job {
-    /// Plays the scenario on one thread, and writes its report.
-    Play,
-}
+use stx_words::{WordsFault, read_words};
 
 /// The most bytes that a scenario may have.
 const MOST_BYTES: usize = 1_048_576;
@@ -33,17 +27,8 @@ pub(crate) const WANT_OF_MEMORY: u8 = 6;
 
 const TOO_LONG: u8 = 7;
 
-/// The job that the words state: to play, for just `--do` and `play`.
-pub fn read_words(words: &[String]) -> Option<Job>
-    ensures { result ≡ job_of words.now }
-{
-    match words {
-        [option, job] if option.as_str() == "--do" && job.as_str() == "play" => Some(Job::Play),
-        _ => None,
-    }
-}
-
-/// Plays the scenario that a source holds, and writes its report to a sink. It waits for nobody.
+/// Does the job that the words state with the scenario that a source holds, and writes its text to a sink. It waits for
+/// nobody.
 ///
 /// The whole text is made before the first write. The statuses of the end are those of `ToolEnd`.
 #[tactic(auto, using(crate::proofs::ToolLaws::all_within))]
@@ -55,24 +40,26 @@ pub fn tool<S: Source, K: Sink>(
 ) -> ToolEnd
     ensures status { IsTrue (is_status result.status) }
 
-    // 0: all was done.
-    ensures done { result.status ≡ 0 → IsPlayed (S.left source.old) (S.left source.new) (GainsEnd (K.taken sink.old) (K.taken sink.new)) result }
+    // 0: the job was done.
+    ensures done { result.status ≡ 0 → IsAnswered words.now (S.left source.old) (S.left source.new)
+        (IsDone (GainsEnd (K.taken sink.old) (K.taken sink.new)) result.report) }
 
     // 2: the words state no job.
-    ensures usage { (result.status ≡ 2) ↔ IsNone (job_of words.now) }
+    ensures usage { result.status ≡ 2 → IsNone (job_of words.now) }
+    ensures unstated { IsNone (job_of words.now) → (result.status ≡ 2) ⊎ (result.status ≡ 6) }
     ensures unread { result.status ≡ 2 → source.new ≡ source.old }
 
     // 3: a read failed.
     ensures read_fault { result.status ≡ 3 → Rose (S.faults source.old) (S.faults source.new) }
 
-    // 4: the bytes denote no scenario.
-    ensures refused { result.status ≡ 4 → IsRefused (S.left source.old) (S.left source.new) (GainsEnd (K.taken sink.old) (K.taken sink.new)) result }
+    // 4: the bytes state no valid scenario, or one that isn't played yet.
+    ensures refused { result.status ≡ 4 → IsAnswered words.now (S.left source.old) (S.left source.new)
+        (IsRefused (GainsEnd (K.taken sink.old) (K.taken sink.new)) result.report) }
 
     // 5: a write failed; a prefix of the text was written.
     ensures write_fault { result.status ≡ 5 → Rose (K.faults sink.old) (K.faults sink.new) }
-    ensures cut_short { result.status ≡ 5 →
-        IsPlayed (S.left source.old) (S.left source.new) (GainsPrefix (K.taken sink.old) (K.taken sink.new)) result
-        ⊎ IsRefused (S.left source.old) (S.left source.new) (GainsPrefix (K.taken sink.old) (K.taken sink.new)) result }
+    ensures cut_short { result.status ≡ 5 → IsAnswered words.now (S.left source.old) (S.left source.new)
+        (IsCutShort (GainsPrefix (K.taken sink.old) (K.taken sink.new)) result.report) }
 
     // 6: memory ran out, before more bytes came than a scenario may have.
     ensures want { result.status ≡ 6 → LosesWithin most_bytes (S.left source.old) (S.left source.new) }
@@ -83,20 +70,27 @@ pub fn tool<S: Source, K: Sink>(
     // 2, 3, 6 and 7 come before anything is written.
     ensures nothing { IsTrue (is_early result.status) → K.taken sink.new ≡ K.taken sink.old }
     ensures unreported { IsTrue (is_early result.status) → result.report ≡ None }
+
+    // What is accepted is done, unless a read or a write failed or memory ran out.
+    ensures complete { (input : List ℕ) → S.left source.old ≡ Some input → IsAccepted words.now input
+        → ¬ (Rose (S.faults source.old) (S.faults source.new)) → ¬ (Rose (K.faults sink.old) (K.faults sink.new))
+        → (result.status ≡ 0) ⊎ (result.status ≡ 6) }
 {
-    if read_words(words).is_none() {
-        return early(USAGE);
-    }
+    let job = match read_words(alloc, words) {
+        Ok(job) => job,
+        Err(WordsFault::Usage) => return early(USAGE),
+        Err(WordsFault::NoMemory) => return early(WANT_OF_MEMORY),
+    };
     let bytes = match read_whole(alloc, source, MOST_BYTES) {
         Ok(bytes) => bytes,
         Err(ReadEnd::Fault) => return early(READ_FAULT),
         Err(ReadEnd::TooLong) => return early(TOO_LONG),
         Err(ReadEnd::NoMemory) => return early(WANT_OF_MEMORY),
     };
-    match answer_to(alloc, &bytes) {
-        Ok(Answer::Played(report, text)) => ToolEnd {
+    match answer_to(alloc, job, &bytes) {
+        Ok(Answer::Done(report, text)) => ToolEnd {
             status: written(sink, &text, DONE),
-            report: Some(report),
+            report,
         },
         Ok(Answer::Refused(text)) => ToolEnd {
             status: written(sink, &text, REFUSED),

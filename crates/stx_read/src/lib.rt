@@ -15,6 +15,7 @@ mod numbered;
 mod numbers;
 mod parts;
 mod path;
+mod read;
 mod schema;
 mod sentence;
 mod walk;
@@ -24,6 +25,8 @@ pub use fault::{Argument, Fault, ReadFault, Stage};
 pub use judging::judge;
 pub use laws::{cycles_are_ways, valid_is_in_order};
 pub use named::Named;
+pub use path::{entry, under};
+pub use read::read_scenario;
 pub use schema::{Field, Kind, Leaf, Shape};
 pub use sentence::{Matched, RuleSentence, Sentence};
 

@@ -1,0 +1,7 @@
+-- The first place among the entries that are left is the first of all.
+use Rattle.std.proofs.Common.{◌≡◌, drop}
+use Rattle.springtx.specs.NotYet.{first_from, method_not_yet}
+use Rattle.springtx.proofs.not_yet.methods_not_yet.Given as goal
+
+abbrev pub invariant-loop-at : goal.invariant-loop-at
+invariant-loop-at l = first_from (method_not_yet l.scenario) l.at (drop l.at l.method-items) ≡ first_from (method_not_yet l.scenario) 0 l.method-items

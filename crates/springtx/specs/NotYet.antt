@@ -1,0 +1,76 @@
+-- The forms that aren't played yet: the first place, in walk order, of a valid scenario that has one.
+use Rattle.std.specs.Prelude.{ℕ, ◌+◌, Bool, true, false, ◌&&◌, if◌then◌else◌, List, [], ◌∷◌, ◌++◌, codes, Option, Some, None}
+use Rattle.std.specs.Option.{is_some, option_or, option_and_then}
+use Rattle.stx_scenario.specs.declared.numbers.MethodNo.{MethodNo}
+use Rattle.stx_scenario.specs.declared.scenario.Scenario.{Scenario}
+use Rattle.stx_scenario.specs.declared.scenario.SyncMode.{SyncMode}
+use Rattle.stx_scenario.specs.declared.scenario.Bean.{Bean}
+use Rattle.stx_scenario.specs.declared.scenario.Method.{Method}
+use Rattle.stx_scenario.specs.declared.scenario.TxAttr.{TxAttr}
+use Rattle.stx_scenario.specs.declared.scenario.Propagation.{Propagation}
+use Rattle.stx_scenario.specs.declared.scenario.Stmt.{Stmt}
+use Rattle.stx_model.specs.Attributes.{bean_attribute}
+use Rattle.stx_read.specs.Faults.{under, entry, first_some}
+
+-- this place, unless its form is built
+abbrev pub unless_built : Bool → List ℕ → Option (List ℕ)
+unless_built true path = None
+unless_built false path = Some path
+
+-- the first place in the entries of a list, whose numbers are counted from n
+abbrev pub first_from : {A : Type 0} → (ℕ → A → Option (List ℕ)) → ℕ → List A → Option (List ℕ)
+first_from place n [] = None
+first_from place n (x ∷ xs) = option_or (place n x) (first_from place (n + 1) xs)
+
+-- ---- which forms are built
+
+abbrev pub is_always : SyncMode → Bool
+is_always SyncMode.Always = true
+is_always _ = false
+
+abbrev pub is_required : Propagation → Bool
+is_required Propagation.Required = true
+is_required _ = false
+
+-- a method's body reads, writes, erases, adds, needs and throws
+abbrev pub is_built : Stmt → Bool
+is_built (Stmt.Read row) = true
+is_built (Stmt.Write row v) = true
+is_built (Stmt.Erase row) = true
+is_built (Stmt.Add row v) = true
+is_built (Stmt.Need row v) = true
+is_built (Stmt.Throw class) = true
+is_built _ = false
+
+-- ---- places
+
+abbrev pub tx_not_yet : List ℕ → Option TxAttr → Option (List ℕ)
+tx_not_yet path None = None
+tx_not_yet path (Some tx) = unless_built (is_required tx.propagation) (under (under path (codes "tx")) (codes "propagation"))
+
+abbrev pub bean_not_yet : ℕ → Bean → Option (List ℕ)
+bean_not_yet n bean = tx_not_yet (entry (codes "beans") n) bean.tx
+
+abbrev pub statement_not_yet : List ℕ → ℕ → Stmt → Option (List ℕ)
+statement_not_yet body n s = unless_built (is_built s) (entry body n)
+
+-- a method has an attribute, its own or its bean's
+abbrev pub has_attribute : Scenario → Method → Bool
+has_attribute S method = is_some (option_or method.tx (bean_attribute S method))
+
+abbrev pub method_not_yet : Scenario → ℕ → Method → Option (List ℕ)
+method_not_yet S n method = let path = entry (codes "methods") n in first_some (
+    unless_built (has_attribute S method) (under path (codes "tx"))
+    ∷ tx_not_yet path method.tx
+    ∷ first_from (statement_not_yet (under path (codes "body"))) 0 method.body
+    ∷ [])
+
+unfoldable pub not_yet : Scenario → Option (List ℕ)
+not_yet S = first_some (
+    unless_built (is_always S.settings.mode) (codes "settings.sync")
+    ∷ first_from bean_not_yet 0 S.beans
+    ∷ first_from (method_not_yet S) 0 S.methods
+    ∷ [])
+
+abbrev pub not_yet_text : List ℕ → List ℕ
+not_yet_text path = codes "refused 17 NotYet " ++ path ++ 10 ∷ []
