@@ -1,6 +1,6 @@
 -- What the call graph of a scenario says of the first method that leads to itself, of the first that is too deep, and of
 -- the weight.
-use Rattle.std.proofs.Common.{◌≡◌, ℕ, ◌+◌, ◌<◌, ◌≤◌, Bool, true, false, nat_lt, cond, Option, Some, None, length, refl, sym, ◌∙◌, ap, subst, arith}
+use Rattle.std.proofs.Common.{◌≡◌, ℕ, ◌+◌, ◌<◌, ◌≤◌, Bool, true, false, nat_lt, cond, List, [], ◌∷◌, Option, Some, None, length, refl, sym, ◌∙◌, ap, subst, arith}
 use Rattle.std.specs.List.{find, range_with_len}
 use Rattle.std.specs.Option.{option_map}
 use Rattle.std.proofs.lemmas.Bool.{false≢true, false_from_ne_true, ltb-true, ltb-false}
@@ -10,10 +10,13 @@ use Rattle.stx_scenario.specs.declared.scenario.Scenario.{Scenario}
 use Rattle.stx_model.specs.Weight.{InRange, IsOnCycle, leads, rank, weight}
 use Rattle.stx_model.specs.Lines.{method_name}
 use Rattle.stx_graph.specs.Ranks.{IsFirst}
-use Rattle.stx_graph.specs.Graph.{LeadsToItself, IsTooDeep, NoCycle, NoneTooDeep}
+use Rattle.stx_graph.specs.Graph.{LeadsToItself, IsTooDeep, NoCycle, NoneTooDeep, IsAccepted, IsDue}
+use Rattle.stx_graph.specs.declared.graph.GraphFault.{GraphFault}
 use Rattle.stx_read.specs.declared.fault.ReadFault.{ReadFault}
 use Rattle.stx_read.specs.declared.fault.ReadFault.TheVariants.{CallCycle, CallDepth, TooLarge}
 use Rattle.stx_read.specs.Calls.{numbered, leads_to_itself, call_cycle, call_depth, too_large}
+use Rattle.stx_read.specs.Faults.{first_some}
+use Rattle.stx_read.specs.Stages.{call_refusal}
 use Rattle.stx_read.proofs.QuietLaws.{mapped_none}
 use Rattle.stx_read.proofs.SearchLaws.{search_none, search_first, none_passes}
 use Rattle.stx_read.proofs.CycleLaws.{cycles_are_ways}
@@ -86,3 +89,27 @@ if_light w false is none = ltb-false 200000 w is
 
 pub not_large : (S : Scenario) → too_large S ≡ None → weight S ≤ 200000
 not_large S none = if_light (weight S) _ refl none
+
+-- ---- the refusal of the call graph
+
+pub calls_accepted : (S : Scenario) → InRange S → IsAccepted S → call_refusal S ≡ None
+calls_accepted S range accepted =
+    ap (λ cycle. first_some (cycle ∷ call_depth S ∷ too_large S ∷ [])) (cycle_none S range accepted.no_cycle)
+    ∙ ap (λ depth. first_some (depth ∷ too_large S ∷ [])) (depth_none S accepted.none_too_deep)
+    ∙ ap (λ large. first_some (large ∷ [])) (light S accepted.light)
+
+pub refused_cycle : (S : Scenario) → InRange S → (m : MethodNo) → IsDue S (GraphFault.CallCycle m)
+    → call_refusal S ≡ Some (CallCycle (method_name S m))
+refused_cycle S range m due = ap (λ cycle. first_some (cycle ∷ call_depth S ∷ too_large S ∷ [])) (cycle_first S range m due)
+
+pub refused_depth : (S : Scenario) → InRange S → (m : MethodNo) → IsDue S (GraphFault.TooDeep m)
+    → call_refusal S ≡ Some (CallDepth (method_name S m))
+refused_depth S range m due =
+    ap (λ cycle. first_some (cycle ∷ call_depth S ∷ too_large S ∷ [])) (cycle_none S range due.0)
+    ∙ ap (λ depth. first_some (depth ∷ too_large S ∷ [])) (depth_first S m due.1)
+
+pub refused_large : (S : Scenario) → InRange S → IsDue S GraphFault.TooLarge → call_refusal S ≡ Some TooLarge
+refused_large S range due =
+    ap (λ cycle. first_some (cycle ∷ call_depth S ∷ too_large S ∷ [])) (cycle_none S range due.0)
+    ∙ ap (λ depth. first_some (depth ∷ too_large S ∷ [])) (depth_none S due.1)
+    ∙ ap (λ large. first_some (large ∷ [])) (large S due.2)

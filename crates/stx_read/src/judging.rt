@@ -46,13 +46,13 @@ pub(crate) fn judged(alloc: Global, scenario: &Scenario) -> Result<Option<ReadFa
     if let Some(fault) = place_fault(alloc, scenario)? {
         return Ok(Some(fault));
     }
-    let tree = match class_tree(alloc, scenario) {
+    let tree = match class_tree(alloc, scenario)? {
         Ok(tree) => tree,
-        Err(ReadFault::NoMemory) => return Err(NoMemory),
         Err(fault) => return Ok(Some(fault)),
     };
     if let Some(fault) = callback_fault(alloc, scenario, &tree)? {
         return Ok(Some(fault));
     }
-    call_fault(alloc, scenario)
+    let fault = call_fault(alloc, scenario)?;
+    Ok(fault)
 }

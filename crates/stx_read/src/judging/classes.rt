@@ -1,9 +1,8 @@
 // The tree of the classes, or why they make none.
-ghost use Rattle.std.specs.Prelude.{◌≡◌, ◌≢◌, ◌<◌, ◌^◌, length, take, Some, IfOk, IfErr, OnOk};
+ghost use Rattle.std.specs.Prelude.{◌≡◌, ◌<◌, ◌^◌, length, take, Some, IfOk, MatchResult};
 ghost use Rattle.stx_scenario.specs.BuiltIn.{built_in};
 ghost use Rattle.stx_model.specs.Classes.{parents_of};
 ghost use Rattle.stx_classes.specs.Tree.{IsTree};
-ghost use Rattle.stx_read.specs.declared.fault.ReadFault.{ReadFault as Fault};
 ghost use Rattle.stx_read.specs.Order.{PlacesInOrder};
 ghost use Rattle.stx_read.specs.Stages.{class_refusal};
 
@@ -11,28 +10,29 @@ use crate::fault::ReadFault;
 use crate::judging::texts::class_name;
 use std::alloc::Global;
 use stx_classes::{ClassFault, ClassTree};
-use stx_scenario::Scenario;
+use stx_scenario::{NoMemory, Scenario};
 
-/// The tree of a scenario's classes, each of which has a parent.
-pub fn class_tree(alloc: Global, scenario: &Scenario) -> Result<ClassTree, ReadFault>
+/// The tree of a scenario's classes, each of which has a parent, or the refusal where they make none.
+pub fn class_tree(
+    alloc: Global,
+    scenario: &Scenario,
+) -> Result<Result<ClassTree, ReadFault>, NoMemory>
     requires built_in { take (length built_in) scenario.now.classes ≡ built_in }
     requires few { length scenario.now.classes < 2 ^ 32 }
     requires order { PlacesInOrder scenario.now }
-    ensures tree { IfOk result (λ tree. tree ≡ parents_of scenario.now.classes) }
-    ensures sound { OnOk result (IsTree scenario.now.classes) }
-    ensures refused { IfErr result (λ fault. fault ≢ Fault.NoMemory → class_refusal scenario.now ≡ Some fault) }
+    ensures { IfOk result (λ made. MatchResult made (λ tree. (tree ≡ parents_of scenario.now.classes) × IsTree scenario.now.classes) (λ fault. class_refusal scenario.now ≡ Some fault)) }
 {
     match ClassTree::build(alloc, &scenario.classes) {
-        Ok(tree) => Ok(tree),
+        Ok(tree) => Ok(Ok(tree)),
         Err(ClassFault::UnknownParent(_)) => unreachable!(),
         Err(ClassFault::Cycle(class)) => {
             let class = class_name(alloc, scenario, class)?;
-            Err(ReadFault::ClassCycle(class))
+            Ok(Err(ReadFault::ClassCycle(class)))
         }
         Err(ClassFault::TooDeep(class)) => {
             let class = class_name(alloc, scenario, class)?;
-            Err(ReadFault::ClassDepth(class))
+            Ok(Err(ReadFault::ClassDepth(class)))
         }
-        Err(ClassFault::NoMemory) => Err(ReadFault::NoMemory),
+        Err(ClassFault::NoMemory) => Err(NoMemory),
     }
 }

@@ -1,10 +1,10 @@
 // The texts of names by number, as refusals give them.
 ghost use Rattle.std.specs.Prelude.{◌≡◌, ◌<◌, length, IfOk};
-ghost use Rattle.stx_model.specs.Lines.{class_name, method_name};
+ghost use Rattle.stx_model.specs.Lines.{bean_name, class_name, method_name};
 
 use crate::fault::Argument;
 use std::alloc::Global;
-use stx_scenario::{ClassNo, MethodNo, NoMemory, Scenario};
+use stx_scenario::{BeanNo, ClassNo, MethodNo, NoMemory, Scenario};
 
 pub fn class_name(alloc: Global, scenario: &Scenario, class: ClassNo) -> Result<Argument, NoMemory>
     requires { class.0 < length scenario.now.classes }
@@ -24,10 +24,16 @@ pub fn method_name(
     ensures { IfOk result (λ name. name ≡ method_name scenario.now method) }
 {
     let method = scenario.method(method);
-    let bean = match scenario.beans.get(method.bean.0 as usize) {
-        Some(bean) => bean.name.as_str(),
-        None => "",
-    };
+    let bean = bean_name(scenario, method.bean);
     let name = method.name.as_str();
     Ok(Argument::from_text(format!(in alloc; "{bean}.{name}")?))
+}
+
+fn bean_name(scenario: &Scenario, bean: BeanNo) -> &str
+    ensures { result.now ≡ bean_name scenario.now bean }
+{
+    match scenario.beans.get(bean.0 as usize) {
+        Some(bean) => bean.name.as_str(),
+        None => "",
+    }
 }

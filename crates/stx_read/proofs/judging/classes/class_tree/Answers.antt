@@ -1,6 +1,7 @@
-use Rattle.std.proofs.Common.{◌∙◌, sym, arith}
+use Rattle.std.proofs.Common.{◌∙◌, length, sym, arith}
 use Rattle.std.proofs.lemmas.List.{length-map}
 use Rattle.std.proofs.lemmas.Option.{none-some}
+use Rattle.stx_model.specs.Classes.{parents_of, is_own_ancestor, is_too_deep}
 use Rattle.stx_read.proofs.ParentLaws.{parents_known}
 use Rattle.stx_read.proofs.SearchLaws.{found_within}
 use Rattle.stx_read.proofs.judging.classes.class_tree.Goals as goal
@@ -14,11 +15,13 @@ unreachable-requires c =
 pub class_name-requires : goal.class_name-requires
 class_name-requires c =
     let due = rw c.in-Err-Cycle.field-0-is at c.in-Err-Cycle.ensures.refused in
-    let within = found_within _ 0 _ _ due.1 in
+    let P = parents_of c.args.scenario.now.classes in
+    let within = found_within (is_own_ancestor P) 0 (length P) c.in-Err-Cycle.class.0 due.1 in
     omega (arith, within, length-map c.args.scenario.now.classes (λ class. class.parent))
 
 pub class_name-requires-in-Err-TooDeep : goal.class_name-requires-in-Err-TooDeep
 class_name-requires-in-Err-TooDeep c =
     let due = rw c.in-Err-TooDeep.field-0-is at c.in-Err-TooDeep.ensures.refused in
-    let within = found_within _ 0 _ _ due.2 in
+    let P = parents_of c.args.scenario.now.classes in
+    let within = found_within (is_too_deep P) 0 (length P) c.in-Err-TooDeep.class.0 due.2 in
     omega (arith, within, length-map c.args.scenario.now.classes (λ class. class.parent))
