@@ -26,17 +26,29 @@ static NAMES: [(&str, bool); 10] = [
     ("\u{e9}", false),
 ];
 
-static CLASS_NAMES: [(&str, bool); 10] = [
-    ("a", true),
-    ("org.acme.Oops", true),
-    ("a.b.c.d.e.f.g.h", true),
+// a class name, and what may stand where a class is named
+static CLASSES: [(&str, bool, bool); 11] = [
+    ("a", true, true),
+    ("org.acme.Oops", true, true),
+    ("a.b.c.d.e.f.g.h", true, true),
+    (BYTES_64, true, true),
+    ("a.b.c.d.e.f.g.h.i", false, false),
+    (BYTES_65, false, false),
+    ("a..b", false, false),
+    (".a", false, false),
+    ("a.", false, false),
+    ("", false, false),
+    ("NestedTransactionNotSupportedException", false, true),
+];
+
+static PATTERNS: [(&str, bool); 7] = [
+    ("1", true),
+    ("..", true),
+    ("_Z.9", true),
     (BYTES_64, true),
-    ("a.b.c.d.e.f.g.h.i", false),
     (BYTES_65, false),
-    ("a..b", false),
-    (".a", false),
-    ("a.", false),
     ("", false),
+    ("a*", false),
 ];
 
 static NUMBERS: [(&str, Option<i64>); 14] = [
@@ -57,151 +69,149 @@ static NUMBERS: [(&str, Option<i64>); 14] = [
 ];
 
 #[test]
-fn names_and_numbers_have_limits(rt: HostRuntime) {
+fn names_have_limits(rt: HostRuntime) {
     for (text, name) in NAMES.iter() {
         assert_eq!(rt; is_name(text), *name, "the name {text:?}");
     }
-    for (text, name) in CLASS_NAMES.iter() {
+}
+
+#[test]
+fn class_names_have_limits(rt: HostRuntime) {
+    for (text, name, class) in CLASSES.iter() {
         assert_eq!(rt; is_class_name(text), *name, "the class name {text:?}");
-        assert_eq!(rt; is_class(text), *name, "the class {text:?}");
+        assert_eq!(rt; is_class(text), *class, "the class {text:?}");
     }
-    let longest = "NestedTransactionNotSupportedException";
-    assert!(rt; !is_class_name(longest) && is_class(longest));
+}
+
+#[test]
+fn patterns_have_limits(rt: HostRuntime) {
+    for (text, pattern) in PATTERNS.iter() {
+        assert_eq!(rt; is_pattern(text), *pattern, "the pattern {text:?}");
+    }
+}
+
+#[test]
+fn numbers_have_limits(rt: HostRuntime) {
     for (text, number) in NUMBERS.iter() {
         assert_eq!(rt; number_in(text), *number, "the number {text:?}");
     }
-    assert!(rt; is_pattern(BYTES_64) && is_pattern("..") && is_pattern("1"));
-    assert!(rt; !is_pattern(BYTES_65) && !is_pattern("") && !is_pattern("a*"));
 }
 
 #[test]
 fn words_stand_for_what_they_say(rt: HostRuntime) {
     assert_eq!(rt; mode_in("actual"), Some(SyncMode::Actual));
-    assert_eq!(rt; mode_in("Always"), None);
-    assert_eq!(rt;
-        propagation_in("not_supported"),
-        Some(Propagation::NotSupported)
-    );
     assert_eq!(rt; propagation_in("never"), Some(Propagation::Never));
-    assert_eq!(rt; propagation_in("requires-new"), None);
     assert_eq!(rt; phase_in("after_rollback"), Some(Phase::AfterRollback));
-    assert_eq!(rt; phase_in(""), None);
 }
 
-static STATEMENTS: [&str; 13] = [
-    "read a",
-    "write a -5",
-    "erase a",
-    "add a 9223372036854775807",
-    "need a 0",
-    "call b.m",
-    "call b.m catch CannotGetJdbcConnectionException",
-    "this m",
-    "this m catch org.acme.Oops",
-    "throw NestedTransactionNotSupportedException",
-    "mark",
-    "publish e",
-    "register s",
-];
-
-static NO_STATEMENTS: [&str; 24] = [
-    "",
-    " ",
-    "read",
-    "read  a",
-    "read a ",
-    " read a",
-    "read a b",
-    "Read a",
-    "write a",
-    "write a 05",
-    "write a 5 6",
-    "add a -9223372036854775809",
-    "need 1 5",
-    "call b",
-    "call b.m.n",
-    "call b.",
-    "call b.m catch",
-    "call b.m Catch X",
-    "call b.m catch X Y",
-    "this b.m",
-    "mark a",
-    "throw NestedTransactionNotSupportedExceptions",
-    "throw a..b",
-    "read\ta",
-];
-
-static RULES: [&str; 4] = [
-    "rollback Exception",
-    "keep org.acme.Oops",
-    "rollback ~a.b",
-    "keep ~NestedTransactionNotSupportedException",
-];
-
-static NO_RULES: [&str; 8] = [
-    "rollback",
-    "rollback ~",
-    "keep  X",
-    "keep X ",
-    "keep a-b",
-    "keep ~a-b",
-    "Keep X",
-    "rollback X Y",
+// a text, and whether it is a statement and a rule
+static FORMS: [(&str, bool, bool); 50] = [
+    ("read a", true, false),
+    ("write a -5", true, false),
+    ("erase a", true, false),
+    ("add a 9223372036854775807", true, false),
+    ("need a 0", true, false),
+    ("call b.m", true, false),
+    (
+        "call b.m catch CannotGetJdbcConnectionException",
+        true,
+        false,
+    ),
+    ("this m", true, false),
+    ("this m catch org.acme.Oops", true, false),
+    ("throw NestedTransactionNotSupportedException", true, false),
+    ("mark", true, false),
+    ("publish e", true, false),
+    ("register s", true, false),
+    ("rollback Exception", false, true),
+    ("keep org.acme.Oops", false, true),
+    ("rollback ~a.b", false, true),
+    ("keep ~NestedTransactionNotSupportedException", false, true),
+    ("", false, false),
+    (" ", false, false),
+    ("read", false, false),
+    ("read  a", false, false),
+    ("read a ", false, false),
+    (" read a", false, false),
+    ("read a b", false, false),
+    ("Read a", false, false),
+    ("write a", false, false),
+    ("write a 05", false, false),
+    ("write a 5 6", false, false),
+    ("add a -9223372036854775809", false, false),
+    ("need 1 5", false, false),
+    ("call b", false, false),
+    ("call b.m.n", false, false),
+    ("call b.", false, false),
+    ("call b.m catch", false, false),
+    ("call b.m Catch X", false, false),
+    ("call b.m catch X Y", false, false),
+    ("this b.m", false, false),
+    ("mark a", false, false),
+    (
+        "throw NestedTransactionNotSupportedExceptions",
+        false,
+        false,
+    ),
+    ("throw a..b", false, false),
+    ("read\ta", false, false),
+    ("throw", false, false),
+    ("rollback", false, false),
+    ("rollback ~", false, false),
+    ("keep  X", false, false),
+    ("keep X ", false, false),
+    ("keep a-b", false, false),
+    ("keep ~a-b", false, false),
+    ("Keep X", false, false),
+    ("rollback X Y", false, false),
 ];
 
 #[test]
 fn statements_and_rules_have_their_forms(rt: HostRuntime) -> Result<(), Fail> {
     let alloc = rt.alloc();
-    for text in STATEMENTS.iter() {
-        assert!(rt;
+    for (text, statement, rule) in FORMS.iter() {
+        assert_eq!(rt;
             sentence_in(alloc, text)?.is_some(),
+            *statement,
             "the statement {text:?}"
         );
-        assert!(rt; rule_in(alloc, text)?.is_none(), "the rule {text:?}");
-    }
-    for text in NO_STATEMENTS.iter() {
-        assert!(rt;
-            sentence_in(alloc, text)?.is_none(),
-            "the statement {text:?}"
-        );
-    }
-    for text in RULES.iter() {
-        assert!(rt; rule_in(alloc, text)?.is_some(), "the rule {text:?}");
-        assert!(rt;
-            sentence_in(alloc, text)?.is_none(),
-            "the statement {text:?}"
-        );
-    }
-    for text in NO_RULES.iter() {
-        assert!(rt; rule_in(alloc, text)?.is_none(), "the rule {text:?}");
+        assert_eq!(rt; rule_in(alloc, text)?.is_some(), *rule, "the rule {text:?}");
     }
     Ok(())
 }
 
-fn rule(alloc: Global, rollback: bool, pattern: &str) -> Result<RuleSentence, NoMemory> {
-    let by = Matched::Pattern(Name::new(alloc, pattern)?);
-    Ok(RuleSentence { rollback, by })
+fn write(alloc: Global) -> Result<Sentence, NoMemory> {
+    Ok(Sentence::Write(Name::new(alloc, "a")?, -5))
+}
+
+fn call(alloc: Global) -> Result<Sentence, NoMemory> {
+    let bean = Name::new(alloc, "b")?;
+    let method = Name::new(alloc, "m")?;
+    let catch = Some(Name::new(alloc, "Error")?);
+    Ok(Sentence::Call {
+        bean,
+        method,
+        catch,
+    })
+}
+
+fn keep(alloc: Global) -> Result<RuleSentence, NoMemory> {
+    let by = Matched::Pattern(Name::new(alloc, ".b")?);
+    Ok(RuleSentence {
+        rollback: false,
+        by,
+    })
+}
+
+fn says(alloc: Global, text: &str, sentence: Sentence) -> Result<bool, NoMemory> {
+    Ok(sentence_in(alloc, text)? == Some(sentence))
 }
 
 #[test]
 fn statements_and_rules_say_their_parts(rt: HostRuntime) -> Result<(), Fail> {
     let alloc = rt.alloc();
-    let write = Sentence::Write(Name::new(alloc, "a")?, -5);
-    assert_eq!(rt; sentence_in(alloc, "write a -5")?, Some(write));
-    let call = Sentence::Call {
-        bean: Name::new(alloc, "b")?,
-        method: Name::new(alloc, "m")?,
-        catch: Some(Name::new(alloc, "Error")?),
-    };
-    assert_eq!(rt; sentence_in(alloc, "call b.m catch Error")?, Some(call));
-    let this = Sentence::This {
-        method: Name::new(alloc, "m")?,
-        catch: None,
-    };
-    assert_eq!(rt; sentence_in(alloc, "this m")?, Some(this));
-    assert_eq!(rt;
-        rule_in(alloc, "keep ~.b")?,
-        Some(rule(alloc, false, ".b")?)
-    );
+    assert!(rt; says(alloc, "write a -5", write(alloc)?)?);
+    assert!(rt; says(alloc, "call b.m catch Error", call(alloc)?)?);
+    assert!(rt; rule_in(alloc, "keep ~.b")? == Some(keep(alloc)?));
     Ok(())
 }
