@@ -90,7 +90,7 @@ depth_refused S class acyclic first =
 
 -- ---- a valid scenario
 
-valid_groups : (S : Scenario) → judged S ≡ None
+pub valid_groups : (S : Scenario) → judged S ≡ None
     → (place_refusal S ≡ None) × (class_refusal S ≡ None) × (callback_refusal S ≡ None) × (call_refusal S ≡ None)
 valid_groups S accepted =
     let place = neither (place_refusal S) _ (sym (judged_groups S) ∙ accepted) in

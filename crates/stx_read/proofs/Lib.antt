@@ -16,3 +16,6 @@ pub mod SentenceLaws
 pub mod LeafLaws
 pub mod DocumentLaws
 pub mod WalkLaws
+pub mod DraftLaws
+pub mod CountLaws
+pub mod ReadLaws

@@ -1,5 +1,5 @@
 // Whether a scenario that is a value is valid, and else why it isn't.
-ghost use Rattle.std.specs.Prelude.{◌≡◌, ◌≢◌, ◌<◌, ◌^◌, length, take, Some, None, IfOk, IfErr, OnOk};
+ghost use Rattle.std.specs.Prelude.{◌≡◌, ◌≢◌, length, take, Some, None, IfOk, IfErr, OnOk};
 ghost use Rattle.stx_scenario.specs.BuiltIn.{built_in};
 ghost use Rattle.stx_read.specs.declared.fault.ReadFault.{ReadFault as Fault};
 ghost use Rattle.stx_read.specs.Judge.{judged as refusal_of, IsShaped};
@@ -38,9 +38,7 @@ pub fn judge(alloc: Global, scenario: &Scenario) -> Result<(), ReadFault>
 
 /// The refusal of a scenario, of which only what the stages need is asked.
 pub(crate) fn judged(alloc: Global, scenario: &Scenario) -> Result<Option<ReadFault>, NoMemory>
-    requires built_in { take (length built_in) scenario.now.classes ≡ built_in }
-    requires few_classes { length scenario.now.classes < 2 ^ 32 }
-    requires few_methods { length scenario.now.methods < 2 ^ 32 }
+    requires { take (length built_in) scenario.now.classes ≡ built_in }
     ensures { IfOk result (λ fault. fault ≡ refusal_of scenario.now) }
 {
     if let Some(fault) = place_fault(alloc, scenario)? {

@@ -20,7 +20,7 @@ use toml::Table;
 /// Reads the scenario that the bytes of a file state: a TOML document of the format's keys and types, whose names, words
 /// and numbers are right, and that is valid. The refusal is that of the first stage that refuses anything, at the first
 /// place that it refuses.
-#[tactic(auto, using(crate::proofs::ReadLaws::shaped), unfolding(crate::specs::Reading::scenario_of))]
+#[tactic(auto, unfolding(crate::specs::Reading::scenario_of))]
 pub fn read_scenario(alloc: Global, bytes: &[u8]) -> Result<Scenario, ReadFault>
     ensures ok { IfOk result (λ scenario. scenario_of bytes.now ≡ Ok scenario) }
     ensures valid { IfOk result (λ scenario. IsValid scenario) }

@@ -1,5 +1,5 @@
 // The tree of the classes, or why they make none.
-ghost use Rattle.std.specs.Prelude.{◌≡◌, ◌<◌, ◌^◌, length, take, Some, IfOk, MatchResult};
+ghost use Rattle.std.specs.Prelude.{◌≡◌, length, take, Some, IfOk, MatchResult};
 ghost use Rattle.stx_scenario.specs.BuiltIn.{built_in};
 ghost use Rattle.stx_model.specs.Classes.{parents_of};
 ghost use Rattle.stx_classes.specs.Tree.{IsTree};
@@ -18,7 +18,6 @@ pub fn class_tree(
     scenario: &Scenario,
 ) -> Result<Result<ClassTree, ReadFault>, NoMemory>
     requires built_in { take (length built_in) scenario.now.classes ≡ built_in }
-    requires few { length scenario.now.classes < 2 ^ 32 }
     requires order { PlacesInOrder scenario.now }
     ensures { IfOk result (λ made. MatchResult made (λ tree. (tree ≡ parents_of scenario.now.classes) × IsTree scenario.now.classes) (λ fault. class_refusal scenario.now ≡ Some fault)) }
 {

@@ -2,6 +2,7 @@ use Rattle.std.proofs.Common.{◌∙◌, length, sym, arith}
 use Rattle.std.proofs.lemmas.List.{length-map}
 use Rattle.std.proofs.lemmas.Option.{none-some}
 use Rattle.stx_model.specs.Classes.{parents_of, is_own_ancestor, is_too_deep}
+use Rattle.stx_read.proofs.CountLaws.{few_classes}
 use Rattle.stx_read.proofs.ParentLaws.{parents_known}
 use Rattle.stx_read.proofs.SearchLaws.{found_within}
 use Rattle.stx_read.proofs.judging.classes.class_tree.Goals as goal
@@ -25,3 +26,6 @@ class_name-requires-in-Err-TooDeep c =
     let P = parents_of c.args.scenario.now.classes in
     let within = found_within (is_too_deep P) 0 (length P) c.in-Err-TooDeep.class.0 due.2 in
     omega (arith, within, length-map c.args.scenario.now.classes (λ class. class.parent))
+
+pub build-requires-clause-few : goal.build-requires-clause-few
+build-requires-clause-few c = few_classes c.args.scenario.now c.requires.order
