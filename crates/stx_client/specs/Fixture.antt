@@ -1,8 +1,7 @@
 -- What the scenarios of the tests have.
-use Rattle.std.specs.Prelude.{◌≡◌, ℕ, List, length, take}
+use Rattle.std.specs.Prelude.{◌≡◌, List, length, take}
 use Rattle.stx_scenario.specs.declared.scenario.ClassDecl.{ClassDecl}
 use Rattle.stx_scenario.specs.declared.scenario.Bean.{Bean}
-use Rattle.stx_scenario.specs.declared.scenario.TxAttr.{TxAttr}
 use Rattle.stx_scenario.specs.BuiltIn.{built_in}
 use Rattle.stx_model.specs.Classes.{IsTree}
 use Rattle.stx_model.specs.Flat.{HasFlatAttribute}

@@ -1,10 +1,10 @@
 -- The definitions of the rules, worked on the built-in classes, app.Soft below Exception and app.Softer below it.
-use Rattle.std.specs.Prelude.{◌≡◌, ℕ, true, false, List, [], ◌∷◌, ◌++◌, codes, Some, None}
+use Rattle.std.specs.Prelude.{◌≡◌, true, false, List, [], ◌∷◌, ◌++◌, codes, Some, None}
 use Rattle.std.proofs.Common.{refl}
 use Rattle.stx_scenario.specs.declared.scenario.ClassDecl.{ClassDecl}
 use Rattle.stx_scenario.specs.declared.scenario.Rule.{Rule}
 use Rattle.stx_scenario.specs.declared.scenario.RuleBy.{RuleBy}
-use Rattle.stx_scenario.specs.declared.classes.TheConstants.{EXCEPTION, ERROR, ARITHMETIC_EXCEPTION}
+use Rattle.stx_scenario.specs.declared.classes.TheConstants.{EXCEPTION, ERROR}
 use Rattle.stx_scenario.specs.BuiltIn.{built_in, class_below}
 use Rattle.stx_model.specs.Rules.{rule_depth, winner, rolls_back}
 

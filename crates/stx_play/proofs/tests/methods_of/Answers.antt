@@ -1,5 +1,5 @@
 -- One method more.
-use Rattle.std.proofs.Common.{◌≡◌, ◌∙◌, ◌+◌, ◌++◌, ◌∷◌, [], length, sym, ap, subst, arith, length-append}
+use Rattle.std.proofs.Common.{◌∙◌, ◌+◌, ◌∷◌, [], length, sym, ap, subst, length-append}
 use Rattle.stx_play.specs.Fixture.{IsPlain, EachPlain}
 use Rattle.stx_play.proofs.FixtureLaws.{each_push}
 use Rattle.stx_play.proofs.tests.methods_of.Goals as goal

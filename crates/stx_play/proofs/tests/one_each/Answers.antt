@@ -1,5 +1,5 @@
 -- The scenario is flat.
-use Rattle.std.proofs.Common.{rules, ◌≡◌, ◌∙◌, ◌≤◌, length, sym, ap}
+use Rattle.std.proofs.Common.{rules, ◌∙◌, ◌≤◌, length, ap}
 use Rattle.std.proofs.lemmas.List.FromFn.{length-map-range_with_len}
 use Rattle.stx_play.specs.Fixture.{only_call}
 use Rattle.stx_play.proofs.FixtureLaws.{flat_each}
