@@ -1,4 +1,5 @@
-//! The texts that the programs write, each made whole: the report of a run, and the answer to a check.
+//! The texts that the programs write, each made whole: the report of a run, the answer to a check, a refusal, and what the
+//! rules decide.
 #![tactic(auto)]
 
 mod check;
@@ -6,12 +7,16 @@ mod clients;
 mod final_rows;
 mod journal;
 mod places;
+mod refusal;
 mod report;
 mod rows;
+mod rules;
 mod text;
 
 pub use check::check_text;
+pub use refusal::refusal_text;
 pub use report::print;
+pub use rules::rules_text;
 
 #[cfg(test)]
 mod tests;

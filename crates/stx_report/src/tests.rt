@@ -1,25 +1,33 @@
-// Whole reports, and the answer to a check.
-use super::{check_text, print};
+// Whole reports, the answers to a check, and what rules decide.
+ghost use Rattle.std.specs.Prelude.{◌≡◌, ◌≢◌, ◌<◌, ◌^◌, IfOk, IfSome, None, length, take};
+ghost use Rattle.stx_scenario.specs.BuiltIn.{built_in};
+ghost use Rattle.stx_scenario.specs.declared.numbers.MethodNo.{MethodNo as MethodNumber};
+ghost use Rattle.stx_model.specs.Attributes.{attribute as attribute_of};
+
+use super::{check_text, print, refusal_text, rules_text};
 use std::alloc::Global;
 use std::test::Fail;
+use stx_attr::Attributes;
+use stx_classes::{ClassFault, ClassTree};
 use stx_model::{
     Access, Answer, ClientLines, Ending, Kind, Line, Outcome, PoolEntry, PoolNote, StoreEntry,
     StoreNote,
 };
+use stx_read::{Argument, ReadFault};
 use stx_scenario::{
-    Bean, BeanNo, CANNOT_ACQUIRE_LOCK_EXCEPTION, EventNo, List, Listener, Method, MethodNo, Name,
-    NoMemory, Phase, Propagation, RowNo, Scenario, Settings, SyncDecl, SyncMode, TxAttr,
-    built_in_classes,
+    Bean, BeanNo, CANNOT_ACQUIRE_LOCK_EXCEPTION, ClassDecl, ClassNo, EXCEPTION, EventNo, List,
+    Listener, Method, MethodNo, Name, NoMemory, Phase, Propagation, RowNo, Rule, RuleBy, Scenario,
+    Settings, SyncDecl, SyncMode, TxAttr, built_in_classes,
 };
 
 /// A bean `b` with a method `m`, a synchronisation `s`, a listener `l` of the event `e`, and the
 /// rows `c`, which has the value 7 at first, and `a`.
 fn small(alloc: Global) -> Result<Scenario, NoMemory> {
-    let mut scenario = empty(alloc);
+    let classes = built_in_classes(alloc)?;
+    let mut scenario = scenario_of(alloc, classes, List::new(alloc), List::new(alloc));
     scenario.events = names(alloc, &["e"])?;
     scenario.row_names = names(alloc, &["c", "a"])?;
     scenario.values.push(7)?;
-    scenario.classes = built_in_classes(alloc)?;
     scenario.beans.push(bean(alloc)?)?;
     scenario.methods.push(method(alloc)?)?;
     scenario.syncs.push(sync(alloc)?)?;
@@ -27,7 +35,16 @@ fn small(alloc: Global) -> Result<Scenario, NoMemory> {
     Ok(scenario)
 }
 
-fn empty(alloc: Global) -> Scenario {
+fn scenario_of(
+    alloc: Global,
+    classes: List<ClassDecl>,
+    beans: List<Bean>,
+    methods: List<Method>,
+) -> Scenario
+    ensures classes { result.classes ≡ classes }
+    ensures beans { result.beans ≡ beans }
+    ensures methods { result.methods ≡ methods }
+{
     Scenario {
         settings: Settings {
             pool: 8,
@@ -38,9 +55,9 @@ fn empty(alloc: Global) -> Scenario {
         schedule: List::new(alloc),
         row_names: List::new(alloc),
         values: List::new(alloc),
-        classes: List::new(alloc),
-        beans: List::new(alloc),
-        methods: List::new(alloc),
+        classes,
+        beans,
+        methods,
         syncs: List::new(alloc),
         listeners: List::new(alloc),
         clients: List::new(alloc),
@@ -362,5 +379,184 @@ fn a_run_without_entries_leaves_the_first_values(rt: HostRuntime) -> Result<(), 
 fn an_accepted_scenario_is_answered_with_its_weight(rt: HostRuntime) -> Result<(), Fail> {
     let text = check_text(rt.alloc(), 200_000)?;
     assert_eq!(rt; text.as_slice(), b"accepted weight 200000\n".as_slice());
+    Ok(())
+}
+
+/// The text of each refusal of `a.b`, in the order of the stages' numbers.
+static REFUSALS: [&str; 16] = [
+    "refused 1 NotToml\n",
+    "refused 2 UnknownKey a.b\n",
+    "refused 3 Missing a.b\n",
+    "refused 4 WrongType a.b\n",
+    "refused 5 BadName a.b\n",
+    "refused 6 OutOfRange a.b\n",
+    "refused 7 TooMany a.b\n",
+    "refused 8 Duplicate a.b\n",
+    "refused 9 BadWord a.b\n",
+    "refused 10 UnknownRef a.b\n",
+    "refused 11 ClassCycle a.b\n",
+    "refused 12 ClassDepth a.b\n",
+    "refused 13 CallbackBody a.b\n",
+    "refused 14 CallCycle a.b\n",
+    "refused 15 CallDepth a.b\n",
+    "refused 16 TooLarge\n",
+];
+
+/// What the stage with this number refuses with.
+fn refusal_of(stage: usize, argument: Argument) -> ReadFault
+    ensures { result ≢ ReadFault.NoMemory }
+{
+    match stage {
+        1 => ReadFault::NotToml,
+        2 => ReadFault::UnknownKey(argument),
+        3 => ReadFault::Missing(argument),
+        4 => ReadFault::WrongType(argument),
+        5 => ReadFault::BadName(argument),
+        6 => ReadFault::OutOfRange(argument),
+        7 => ReadFault::TooMany(argument),
+        8 => ReadFault::Duplicate(argument),
+        9 => ReadFault::BadWord(argument),
+        10 => ReadFault::UnknownRef(argument),
+        11 => ReadFault::ClassCycle(argument),
+        12 => ReadFault::ClassDepth(argument),
+        13 => ReadFault::CallbackBody(argument),
+        14 => ReadFault::CallCycle(argument),
+        15 => ReadFault::CallDepth(argument),
+        _ => ReadFault::TooLarge,
+    }
+}
+
+#[test]
+fn each_refusal_says_its_stage_and_its_place(rt: HostRuntime) -> Result<(), Fail> {
+    let alloc = rt.alloc();
+    for (index, wanted) in REFUSALS.iter().enumerate() {
+        let argument = Argument::from_text(String::from_str(alloc, "a.b")?);
+        let text = refusal_text(alloc, &refusal_of(index + 1, argument))?;
+        assert_eq!(rt; text.as_slice(), wanted.as_bytes());
+    }
+    Ok(())
+}
+
+const SOFT: ClassNo = ClassNo(17);
+
+/// A bean `a` without an attribute, and a bean `b` with rules; `a` has a method `n`, and `b` a method `m`.
+fn ruled(alloc: Global) -> Result<Scenario, NoMemory>
+    ensures built_in { IfOk result (λ scenario. take (length built_in) scenario.classes ≡ built_in) }
+    ensures few_classes { IfOk result (λ scenario. length scenario.classes ≡ 19) }
+    ensures few_methods { IfOk result (λ scenario. length scenario.methods ≡ 2) }
+    ensures few_rules { IfOk result (λ scenario. (m : MethodNumber) →
+        IfSome (attribute_of scenario m) (λ attribute. length attribute.rules < 2 ^ 32)) }
+{
+    let plain = bean_named(alloc, "a", None)?;
+    let tx = soft_rules(alloc)?;
+    let ruled = bean_named(alloc, "b", Some(tx))?;
+    let mut beans = List::new(alloc);
+    beans.push(plain)?;
+    beans.push(ruled)?;
+    let of_plain = method_of(alloc, 0, "n")?;
+    let of_ruled = method_of(alloc, 1, "m")?;
+    let mut methods = List::new(alloc);
+    methods.push(of_plain)?;
+    methods.push(of_ruled)?;
+    let classes = soft_classes(alloc)?;
+    Ok(scenario_of(alloc, classes, beans, methods))
+}
+
+fn bean_named(alloc: Global, name: &str, tx: Option<TxAttr>) -> Result<Bean, NoMemory>
+    ensures { IfOk result (λ bean. bean.tx ≡ tx) }
+{
+    let name = Name::new(alloc, name)?;
+    Ok(Bean { name, tx })
+}
+
+/// A method that has no attribute of its own.
+fn method_of(alloc: Global, bean: u32, name: &str) -> Result<Method, NoMemory>
+    ensures { IfOk result (λ method. method.tx ≡ None) }
+{
+    Ok(Method {
+        bean: BeanNo(bean),
+        name: Name::new(alloc, name)?,
+        tx: None,
+        body: List::new(alloc),
+    })
+}
+
+/// An attribute that rolls back for `Exception` and keeps for `app.Soft`.
+fn soft_rules(alloc: Global) -> Result<TxAttr, NoMemory>
+    ensures { IfOk result (λ attribute. length attribute.rules ≡ 2) }
+{
+    let mut rules = List::new(alloc);
+    rules.push(Rule {
+        rollback: true,
+        by: RuleBy::Class(EXCEPTION),
+    })?;
+    rules.push(Rule {
+        rollback: false,
+        by: RuleBy::Class(SOFT),
+    })?;
+    Ok(TxAttr {
+        propagation: Propagation::Required,
+        read_only: false,
+        rules,
+    })
+}
+
+/// The built-in classes, `app.Soft` below `Exception`, and `app.Softer` below `app.Soft`.
+fn soft_classes(alloc: Global) -> Result<List<ClassDecl>, NoMemory>
+    ensures built_in { IfOk result (λ classes. take (length built_in) classes ≡ built_in) }
+    ensures count { IfOk result (λ classes. length classes ≡ 19) }
+{
+    let mut classes = built_in_classes(alloc)?;
+    classes.push(class_below(alloc, "app.Soft", EXCEPTION)?)?;
+    classes.push(class_below(alloc, "app.Softer", SOFT)?)?;
+    Ok(classes)
+}
+
+fn class_below(alloc: Global, name: &str, parent: ClassNo) -> Result<ClassDecl, NoMemory> {
+    let name = Name::new(alloc, name)?;
+    let parent = Some(parent);
+    Ok(ClassDecl { name, parent })
+}
+
+fn rules_of(alloc: Global, scenario: &Scenario) -> Result<Vec<u8>, ClassFault>
+    requires built_in { take (length built_in) scenario.now.classes ≡ built_in }
+    requires few_classes { length scenario.now.classes < 2 ^ 32 }
+    requires few_methods { length scenario.now.methods < 2 ^ 32 }
+    requires few_rules { (m : MethodNumber) →
+        IfSome (attribute_of scenario.now m) (λ attribute. length attribute.rules < 2 ^ 32) }
+{
+    let tree = ClassTree::build(alloc, &scenario.classes)?;
+    let attributes = Attributes::resolve(alloc, scenario)?;
+    Ok(rules_text(alloc, scenario, &tree, &attributes)?)
+}
+
+const RULES: &str = "rules b.m Throwable keep by default
+rules b.m Exception rollback by 0
+rules b.m Error rollback by default
+rules b.m RuntimeException rollback by 0
+rules b.m IllegalStateException rollback by 0
+rules b.m ArithmeticException rollback by 0
+rules b.m NestedRuntimeException rollback by 0
+rules b.m TransactionException rollback by 0
+rules b.m CannotCreateTransactionException rollback by 0
+rules b.m NestedTransactionNotSupportedException rollback by 0
+rules b.m TransactionUsageException rollback by 0
+rules b.m IllegalTransactionStateException rollback by 0
+rules b.m NoTransactionException rollback by 0
+rules b.m UnexpectedRollbackException rollback by 0
+rules b.m DataAccessException rollback by 0
+rules b.m CannotAcquireLockException rollback by 0
+rules b.m CannotGetJdbcConnectionException rollback by 0
+rules b.m app.Soft keep by 1
+rules b.m app.Softer keep by 1
+end
+";
+
+#[test]
+fn the_rules_of_a_method_decide_for_each_class(rt: HostRuntime) -> Result<(), Fail> {
+    let alloc = rt.alloc();
+    let scenario = ruled(alloc)?;
+    let text = rules_of(alloc, &scenario)?;
+    assert_eq!(rt; text.as_slice(), RULES.as_bytes());
     Ok(())
 }

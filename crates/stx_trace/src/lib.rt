@@ -9,6 +9,7 @@ mod words;
 pub use history::History;
 pub use lines::push_line;
 pub use names::{class_name, method_name};
+pub use words::decision_word;
 
 #[cfg(test)]
 mod tests;

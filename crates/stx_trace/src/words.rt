@@ -40,6 +40,7 @@ pub fn ending_word(ending: Ending) -> &'static str
     }
 }
 
+/// The word for what rules decide: `rollback` where the transaction rolls back, else `keep`.
 pub fn decision_word(rollback: bool) -> &'static str
     ensures { result.now ≡ texts.decision_word rollback }
 {
