@@ -8,3 +8,4 @@ pub mod SentenceLaws
 pub mod LeafLaws
 pub mod DocumentLaws
 pub mod WalkLaws
+pub mod DraftLaws

@@ -1,7 +1,7 @@
 // The scenario that a document states: names become numbers, and a name of nothing becomes a number that nothing has.
 ghost use Rattle.std.specs.Prelude.{◌≡◌, ◌++◌, ◌<◌, ◌^◌, [], IfOk, None, map, length, codes, pos};
 ghost use Rattle.toml.specs.View.{table_view};
-ghost use Rattle.stx_read.specs.Duplicates.{duplicate_from, duplicate_among, names_in as names_of_document};
+ghost use Rattle.stx_read.specs.Duplicates.{built_in_names, duplicate_from, duplicate_among, names_in as names_of_document};
 ghost use Rattle.stx_read.specs.Draft.{all_names, drafted as drafted_of, natural as natural_of};
 ghost use Rattle.stx_read.specs.Parts.{numbers_at as numbers_of, tables_at as tables_of, number_at as number_of};
 
@@ -51,22 +51,36 @@ fn all_names_in(alloc: Global, root: &Table) -> Result<Numbered, NoMemory>
     ensures { IfOk result (λ names. names ≡ all_names (table_view root.now)) }
 {
     let named = names_in(alloc, root)?;
-    let rows = declared(alloc, named.rows.as_slice())?;
+    let events = declared(alloc, &named.events)?;
+    let rows = declared(alloc, &named.rows)?;
+    let rows = with_named_rows(alloc, root, rows)?;
+    let classes = declared_classes(alloc, &named.classes)?;
+    let beans = declared(alloc, &named.beans)?;
+    let methods = declared(alloc, &named.methods)?;
+    let syncs = declared(alloc, &named.syncs)?;
     Ok(Numbered {
-        events: declared(alloc, named.events.as_slice())?,
-        rows: with_named_rows(alloc, root, rows)?,
-        classes: with_names(alloc, built_in_numbers(alloc)?, named.classes.as_slice())?,
-        beans: declared(alloc, named.beans.as_slice())?,
-        methods: declared(alloc, named.methods.as_slice())?,
-        syncs: declared(alloc, named.syncs.as_slice())?,
+        events,
+        rows,
+        classes,
+        beans,
+        methods,
+        syncs,
     })
 }
 
-fn declared(alloc: Global, names: &[Name]) -> Result<Numbers, NoMemory>
+fn declared(alloc: Global, names: &List<Name>) -> Result<Numbers, NoMemory>
     requires { duplicate_from [] 0 names.now ≡ None }
     ensures { IfOk result (λ numbers. numbers ≡ names.now) }
 {
-    with_names(alloc, Numbers::new(alloc), names)
+    with_names(alloc, Numbers::new(alloc), names.as_slice())
+}
+
+/// The built-in classes, and after them those that are declared.
+fn declared_classes(alloc: Global, names: &List<Name>) -> Result<Numbers, NoMemory>
+    requires { duplicate_from built_in_names 0 names.now ≡ None }
+    ensures { IfOk result (λ numbers. numbers ≡ built_in_names ++ names.now) }
+{
+    with_names(alloc, built_in_numbers(alloc)?, names.as_slice())
 }
 
 /// What the tables of an array state, after what is there already.
