@@ -1,5 +1,5 @@
 -- The scenario that a document states is shaped: the rows that only statements name are names, and each is new.
-use Rattle.std.proofs.Common.{◌≡◌, ℕ, ◌+◌, ℤ, Bool, true, false, ◌&&◌, List, [], ◌∷◌, ◌++◌, codes, length, map, take, drop, fold, if◌then◌else◌, Option, Some, None, refl, sym, ap, ◌∙◌, subst, append_assoc, append-nil, length-append, arith, inl, inr}
+use Rattle.std.proofs.Common.{◌≡◌, ℕ, ◌+◌, ℤ, pos, Bool, true, false, ◌&&◌, List, [], ◌∷◌, ◌++◌, codes, length, map, take, drop, fold, if◌then◌else◌, Option, Some, None, refl, sym, ap, ◌∙◌, subst, append_assoc, append-nil, length-append, arith, inl, inr}
 use Rattle.std.proofs.lemmas.Bool.{cases_Bool, and_parts}
 use Rattle.std.proofs.lemmas.List.{length-map}
 use Rattle.std.proofs.lemmas.List.Concat.{flat_map-cons}
@@ -11,14 +11,22 @@ use Rattle.std.specs.Str.{bytes_eq}
 use Rattle.toml.specs.Data.{Members}
 use Rattle.stx_scenario.specs.declared.scenario.Scenario.{Scenario}
 use Rattle.stx_scenario.specs.declared.scenario.ClassDecl.{ClassDecl}
+use Rattle.stx_scenario.specs.declared.scenario.Settings.{Settings}
+use Rattle.stx_scenario.specs.declared.scenario.Bean.{Bean}
+use Rattle.stx_scenario.specs.declared.scenario.Method.{Method}
+use Rattle.stx_scenario.specs.declared.scenario.SyncDecl.{SyncDecl}
+use Rattle.stx_scenario.specs.declared.scenario.Listener.{Listener}
+use Rattle.stx_scenario.specs.declared.numbers.MethodNo.{MethodNo}
 use Rattle.stx_scenario.specs.BuiltIn.{built_in}
+use Rattle.stx_read.specs.declared.numbered.Numbered.{Numbered}
 use Rattle.stx_read.specs.declared.sentence.Sentence.{Sentence}
 use Rattle.stx_read.specs.Names.{is_name, number_in}
 use Rattle.stx_read.specs.Sentences.{name_in, class_in, method_in, call_of, alone, about, of_value, with_value, catching, with_catch, sentence_of, sentence_in, words_of}
-use Rattle.stx_read.specs.Parts.{texts_at, tables_at}
+use Rattle.stx_read.specs.Parts.{texts_at, tables_at, numbers_at, number_at}
 use Rattle.stx_read.specs.Duplicates.{has_name, duplicate_from, names_in}
-use Rattle.stx_read.specs.Draft.{row_said, with_name, with_rows, sentences_at, callback_sentences, sentences_of, all_names, class_in as class_stated, drafted}
-use Rattle.stx_read.specs.Judge.{IsFew, IsShaped}
+use Rattle.stx_read.specs.Draft.{row_said, with_name, with_rows, sentences_at, callback_sentences, sentences_of, all_names, class_in as class_stated, bean_in, method_in_table, sync_in, listener_in, calls_in, natural, settings_of, drafted}
+use Rattle.stx_read.specs.Judge.{IsShaped}
+use Rattle.stx_read.specs.Shaped.{AreFew, DraftsAreShaped}
 
 -- ---- a statement's row is a name
 
@@ -104,7 +112,7 @@ words-row (verb ∷ row ∷ value ∷ []) = value-row verb row value
 words-row (verb ∷ object ∷ word ∷ class ∷ []) = catch-row verb object word class
 words-row (a ∷ b ∷ c ∷ d ∷ e ∷ more) = none-row
 
-pub sentence-row : (text : List ℕ) → row_is_name (sentence_in text) ≡ true
+sentence-row : (text : List ℕ) → row_is_name (sentence_in text) ≡ true
 unfolding sentence_in
 sentence-row text = words-row (words_of text)
 
@@ -214,18 +222,6 @@ drop-first : {A : Type 0} (xs ys : List A) → drop (length xs) (xs ++ ys) ≡ y
 drop-first [] ys = refl
 drop-first (x ∷ xs) ys = drop-first xs ys
 
--- how many of each there are
-pub record AreFew (S : Scenario) : Type 0 where
-  pub events : IsFew (length S.events)
-  pub turns : IsFew (length S.schedule)
-  pub rows : IsFew (length S.row_names)
-  pub classes : IsFew (length S.classes)
-  pub beans : IsFew (length S.beans)
-  pub methods : IsFew (length S.methods)
-  pub syncs : IsFew (length S.syncs)
-  pub listeners : IsFew (length S.listeners)
-  pub clients : IsFew (length S.clients)
-
 shaped_so : (S : Scenario) (own : List ClassDecl) (rows : List (List ℕ)) → S.classes ≡ built_in ++ own → length S.values ≡ length rows → Added rows S.row_names → AreFew S → IsShaped S
 shaped_so S own rows classes valued all few =
     let first : take (length S.values) S.row_names ≡ rows = rw (all.is, valued) (take-first rows all.more) in
@@ -246,9 +242,29 @@ shaped_so S own rows classes valued all few =
       few_clients = few.clients;
     }
 
-pub shaped : (root : Members) → AreFew (drafted root) → IsShaped (drafted root)
+pub shaped : DraftsAreShaped
 unfolding drafted
 shaped root few =
     shaped_so (drafted root) (map (class_stated (all_names root)) (tables_at (codes "classes") root)) (names_in root).rows refl
     (length-map (tables_at (codes "rows") root) _ ∙ sym (length-map (tables_at (codes "rows") root) _))
     (added (flat_map row_said (sentences_of root)) (names_in root).rows (are_names-document root)) few
+
+-- the parts of a scenario, one by one
+pub drafted_so : (root : Members) (names : Numbered) (settings : Settings) (events row_names : List (List ℕ)) (schedule : List ℕ) (values : List ℤ) (classes : List ClassDecl)
+    (beans : List Bean) (methods : List Method) (syncs : List SyncDecl) (listeners : List Listener) (clients : List (List MethodNo))
+    → names ≡ all_names root
+    → settings ≡ settings_of root
+    → events ≡ names.events
+    → schedule ≡ map natural (numbers_at (codes "schedule") root)
+    → row_names ≡ names.rows
+    → values ≡ map (number_at (codes "value") (pos 0)) (tables_at (codes "rows") root)
+    → classes ≡ built_in ++ map (class_stated names) (tables_at (codes "classes") root)
+    → beans ≡ map (bean_in names) (tables_at (codes "beans") root)
+    → methods ≡ map (method_in_table names) (tables_at (codes "methods") root)
+    → syncs ≡ map (sync_in names) (tables_at (codes "syncs") root)
+    → listeners ≡ map (listener_in names) (tables_at (codes "listeners") root)
+    → clients ≡ map (calls_in names) (tables_at (codes "clients") root)
+    → record { settings = settings; events = events; schedule = schedule; row_names = row_names; values = values; classes = classes; beans = beans; methods = methods; syncs = syncs; listeners = listeners; clients = clients } ≡ drafted root
+unfolding drafted
+drafted_so root names settings events row_names schedule values classes beans methods syncs listeners clients n s e t r v c b m y l k =
+    rw (s, e, t, r, v, c, b, m, y, l, k, n)

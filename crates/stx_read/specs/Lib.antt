@@ -11,3 +11,4 @@ pub mod Calls
 pub mod Judge
 pub mod Reading
 pub mod Refusals
+pub mod Shaped

@@ -1,9 +1,11 @@
 // The scenario that a document states: names become numbers, and a name of nothing becomes a number that nothing has.
 ghost use Rattle.std.specs.Prelude.{◌≡◌, ◌++◌, ◌<◌, ◌^◌, [], IfOk, None, map, length, codes, pos};
 ghost use Rattle.toml.specs.View.{table_view};
+ghost use Rattle.stx_scenario.specs.BuiltIn.{built_in};
 ghost use Rattle.stx_read.specs.Duplicates.{built_in_names, duplicate_from, duplicate_among, names_in as names_of_document};
-ghost use Rattle.stx_read.specs.Draft.{all_names, drafted as drafted_of, natural as natural_of};
+ghost use Rattle.stx_read.specs.Draft.{all_names, class_in, drafted as drafted_of, natural as natural_of};
 ghost use Rattle.stx_read.specs.Parts.{numbers_at as numbers_of, tables_at as tables_of, number_at as number_of};
+ghost use Rattle.stx_read.specs.Shaped.{DraftsAreShaped};
 
 mod rows;
 mod settings;
@@ -19,7 +21,7 @@ use crate::parts::{number_at, numbers_at, tables_at};
 use rows::with_named_rows;
 use settings::{natural, settings_of};
 use std::alloc::Global;
-use stx_scenario::{List, Name, NoMemory, Scenario, built_in_classes};
+use stx_scenario::{ClassDecl, List, Name, NoMemory, Scenario, built_in_classes};
 use tables::{Drafted, draft_each};
 use toml::Table;
 
@@ -29,19 +31,30 @@ pub fn drafted(alloc: Global, root: &Table) -> Result<Scenario, NoMemory>
     ensures drafted { IfOk result (λ scenario. scenario ≡ drafted_of (table_view root.now)) }
     ensures few_rows { IfOk result (λ scenario. length scenario.row_names < 2 ^ 32) }
 {
+    let settings = settings_of(root);
     let names = all_names_in(alloc, root)?;
+    let events = names.events.names(alloc)?;
+    let schedule = schedule_in(alloc, root)?;
+    let row_names = names.rows.names(alloc)?;
+    let values = values_in(alloc, root)?;
+    let classes = classes_in(alloc, root, &names)?;
+    let beans = tables_of_array(alloc, root, "beans", &names)?;
+    let methods = tables_of_array(alloc, root, "methods", &names)?;
+    let syncs = tables_of_array(alloc, root, "syncs", &names)?;
+    let listeners = tables_of_array(alloc, root, "listeners", &names)?;
+    let clients = tables_of_array(alloc, root, "clients", &names)?;
     Ok(Scenario {
-        settings: settings_of(root),
-        events: names.events.names(alloc)?,
-        schedule: schedule_in(alloc, root)?,
-        row_names: names.rows.names(alloc)?,
-        values: values_in(alloc, root)?,
-        classes: tables_of_array(alloc, root, "classes", &names, built_in_classes(alloc)?)?,
-        beans: tables_of_array(alloc, root, "beans", &names, List::new(alloc))?,
-        methods: tables_of_array(alloc, root, "methods", &names, List::new(alloc))?,
-        syncs: tables_of_array(alloc, root, "syncs", &names, List::new(alloc))?,
-        listeners: tables_of_array(alloc, root, "listeners", &names, List::new(alloc))?,
-        clients: tables_of_array(alloc, root, "clients", &names, List::new(alloc))?,
+        settings,
+        events,
+        schedule,
+        row_names,
+        values,
+        classes,
+        beans,
+        methods,
+        syncs,
+        listeners,
+        clients,
     })
 }
 
@@ -83,18 +96,29 @@ fn declared_classes(alloc: Global, names: &List<Name>) -> Result<Numbers, NoMemo
     with_names(alloc, built_in_numbers(alloc)?, names.as_slice())
 }
 
-/// What the tables of an array state, after what is there already.
+/// The built-in classes, and after them those that the document declares.
+fn classes_in(alloc: Global, root: &Table, names: &Numbered) -> Result<List<ClassDecl>, NoMemory>
+    ensures { IfOk result (λ classes. classes ≡ built_in ++ map (class_in names.now) (tables_of (codes "classes") (table_view root.now))) }
+{
+    let tables = tables_at(alloc, root, "classes")?;
+    let before = built_in_classes(alloc)?;
+    let classes = draft_each(alloc, names, tables.as_slice(), before)?;
+    Ok(classes)
+}
+
+/// What the tables of an array state.
 fn tables_of_array<T: Drafted + Drop>(
     alloc: Global,
     root: &Table,
     array: &str,
     names: &Numbered,
-    before: List<T>,
 ) -> Result<List<T>, NoMemory>
-    ensures { IfOk result (λ all. all ≡ before ++ map (T.stated names.now) (tables_of array.now (table_view root.now))) }
+    ensures { IfOk result (λ all. all ≡ map (T.stated names.now) (tables_of array.now (table_view root.now))) }
 {
     let tables = tables_at(alloc, root, array)?;
-    draft_each(alloc, names, tables.as_slice(), before)
+    let before = List::new(alloc);
+    let all = draft_each(alloc, names, tables.as_slice(), before)?;
+    Ok(all)
 }
 
 fn schedule_in(alloc: Global, root: &Table) -> Result<List<u32>, NoMemory>
@@ -118,3 +142,8 @@ fn values_in(alloc: Global, root: &Table) -> Result<List<i64>, NoMemory>
     }
     Ok(values)
 }
+
+/// What a document states is shaped as a scenario has to be.
+pub fn drafts_are_shaped()
+    ensures { DraftsAreShaped }
+{}
