@@ -159,7 +159,10 @@ are_names-callback sync =
     let c = sentences_at (codes "after_commit") sync in
     let d = sentences_at (codes "after_completion") sync in
     are_names-append (a ++ b ++ c) d
-    (are_names-append (a ++ b) c (are_names-append a b (are_names-at _ sync) (are_names-at _ sync)) (are_names-at _ sync)) (are_names-at _ sync)
+    (are_names-append (a ++ b) c
+    (are_names-append a b (are_names-at (codes "before_commit") sync) (are_names-at (codes "before_completion") sync))
+    (are_names-at (codes "after_commit") sync))
+    (are_names-at (codes "after_completion") sync)
 
 are_names-document : (root : Members) → AreNames (sentences_of root)
 are_names-document root =
@@ -167,8 +170,10 @@ are_names-document root =
     let b = flat_map callback_sentences (tables_at (codes "syncs") root) in
     let c = flat_map (sentences_at (codes "body")) (tables_at (codes "listeners") root) in
     are_names-append (a ++ b) c
-    (are_names-append a b (are_names-tables _ (are_names-at (codes "body")) _) (are_names-tables _ are_names-callback _))
-    (are_names-tables _ (are_names-at (codes "body")) _)
+    (are_names-append a b
+    (are_names-tables (sentences_at (codes "body")) (are_names-at (codes "body")) (tables_at (codes "methods") root))
+    (are_names-tables callback_sentences are_names-callback (tables_at (codes "syncs") root)))
+    (are_names-tables (sentences_at (codes "body")) (are_names-at (codes "body")) (tables_at (codes "listeners") root))
 
 -- ---- names that come after others, each new and a name
 
