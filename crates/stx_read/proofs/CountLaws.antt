@@ -6,7 +6,7 @@ use Rattle.stx_scenario.specs.declared.scenario.ClassDecl.{ClassDecl}
 use Rattle.stx_scenario.specs.BuiltIn.{built_in}
 use Rattle.stx_read.specs.Order.{PlacesInOrder}
 use Rattle.stx_read.specs.Judge.{IsFew}
-use Rattle.stx_read.proofs.DraftLaws.{AreFew}
+use Rattle.stx_read.specs.Shaped.{AreFew}
 
 -- the built-in classes, and at most 1,000 more
 pub few_classes : (S : Scenario) → PlacesInOrder S → length S.classes < 2 ^ 32

@@ -6,8 +6,10 @@ use Rattle.std.proofs.lemmas.Grind.{fold-append, flat_map-append}
 use Rattle.std.specs.List.{flat_map}
 use Rattle.toml.specs.Data.{Members}
 use Rattle.stx_read.specs.declared.sentence.Sentence.{Sentence}
+use Rattle.stx_read.specs.declared.named.Named.{Named}
 use Rattle.stx_read.specs.Parts.{tables_at}
-use Rattle.stx_read.specs.Draft.{row_said, with_name, with_rows, sentences_at, callback_sentences, sentences_of}
+use Rattle.stx_read.specs.Duplicates.{names_in, built_in_names}
+use Rattle.stx_read.specs.Draft.{all_names, row_said, with_name, with_rows, sentences_at, callback_sentences, sentences_of}
 
 pub with_rows-append : (rows : List (List ℕ)) (a b : List Sentence) → with_rows rows (a ++ b) ≡ with_rows (with_rows rows a) b
 with_rows-append rows a b = rw (flat_map-append row_said a b) (fold-append with_name rows (flat_map row_said a) (flat_map row_said b))
@@ -30,3 +32,11 @@ document_rows seen root methods syncs listeners r0 r1 r2 r3 m s l e1 e2 e3 =
     let f3 : r3 ≡ with_rows r2 c = e3 ∙ ap (with_rows r2) (sym (flat_map-map (sentences_at (codes "body")) seen listeners) ∙ ap (flat_map (sentences_at (codes "body"))) l) in
     f3 ∙ ap (λ r. with_rows r c) f2 ∙ ap (λ r. with_rows (with_rows r b) c) f1
     ∙ ap (λ r. with_rows r c) (sym (with_rows-append r0 a b)) ∙ sym (with_rows-append r0 (a ++ b) c)
+
+-- ---- all names with their numbers
+
+pub all_named : (root : Members) (named : Named) (events rows0 rows classes beans methods syncs : List (List ℕ)) → named ≡ names_in root
+    → events ≡ named.events → rows0 ≡ named.rows → rows ≡ with_rows rows0 (sentences_of root) → classes ≡ built_in_names ++ named.classes
+    → beans ≡ named.beans → methods ≡ named.methods → syncs ≡ named.syncs
+    → record { events = events; rows = rows; classes = classes; beans = beans; methods = methods; syncs = syncs } ≡ all_names root
+all_named root named events rows0 rows classes beans methods syncs n e r0 r c b m s = rw (e, r, r0, c, b, m, s, n)

@@ -14,3 +14,4 @@ pub mod Order
 pub mod Laws
 pub mod Reading
 pub mod Refusals
+pub mod Shaped
