@@ -82,9 +82,7 @@ fn names_that_stand_twice_are_found(rt: HostRuntime) -> Result<(), Fail> {
 }
 
 fn draft_of(alloc: Global, input: &str) -> Result<Scenario, Fail> {
-    let root = document(alloc, input.as_bytes())
-        .ok()
-        .ok_or("no document")?;
+    let root = document(alloc, input.as_bytes()).ok().ok_or("no document")?;
     let named = names_in(alloc, &root)?;
     if duplicate_among(alloc, &named)?.is_some() {
         return Err("a name stands twice".into());
