@@ -127,6 +127,6 @@ unfolding leads_to_itself
 cycles_are_ways S range m within = (
   (λ own. let way = reach_way (length S.methods) (leads S) m m own in (way.0, way.2)),
   (λ cycle.
-  let short = shortest (leads S) (length S.methods) (λ a b h. leads_below S range a b h) cycle.0 cycle.0 m m (omega arith) cycle.1 in
-  way_reach (length S.methods) short.0 (leads S) m m short.1 short.2),
+      let short = shortest (leads S) (length S.methods) (λ a b h. leads_below S range a b h) cycle.0 cycle.0 m m (omega arith) cycle.1 in
+      way_reach (length S.methods) short.0 (leads S) m m short.1 short.2),
 )

@@ -64,7 +64,7 @@ known_own S own a many within =
 
 known_at : (S : Scenario) → take (length built_in) S.classes ≡ built_in → AllOwn S → (a : ℕ) → a < length S.classes
     → is_unknown (length S.classes) a (parent_in (parents_of S.classes) a) ≡ false
-known_at S begins own a within = elim (cases_lt a 17) [ | inl few ↦ known_first S begins a few | inr many ↦ known_own S own a many within ]
+known_at S begins own a within = elim (cases_lt a 17) [ inl few ↦ known_first S begins a few | inr many ↦ known_own S own a many within ]
 
 -- so the first class whose parent is unknown isn't there
 pub parents_known : (S : Scenario) → take (length built_in) S.classes ≡ built_in → All (ClassInOrder S) (own_classes S) → first_unknown_parent S.classes ≡ None

@@ -1,3 +1,4 @@
 // What the pieces of the reader answer, by tables of cases.
+mod judging;
 mod sentences;
 mod walks;
