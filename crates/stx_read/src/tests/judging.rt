@@ -297,10 +297,14 @@ fn judged(rt: &impl Abort, alloc: Global, scenario: &Scenario) -> Result<(), Rea
     requires { take (length built_in) scenario.now.classes ≡ built_in }
 {
     assert!(rt; scenario.values.len() == scenario.row_names.len());
-    assert!(rt; scenario.events.len() < 1000 && scenario.schedule.len() < 1000);
-    assert!(rt; scenario.row_names.len() < 1000 && scenario.classes.len() < 1000);
-    assert!(rt; scenario.beans.len() < 1000 && scenario.methods.len() < 1000);
-    assert!(rt; scenario.syncs.len() < 1000 && scenario.listeners.len() < 1000);
+    assert!(rt; scenario.events.len() < 1000);
+    assert!(rt; scenario.schedule.len() < 1000);
+    assert!(rt; scenario.row_names.len() < 1000);
+    assert!(rt; scenario.classes.len() < 1000);
+    assert!(rt; scenario.beans.len() < 1000);
+    assert!(rt; scenario.methods.len() < 1000);
+    assert!(rt; scenario.syncs.len() < 1000);
+    assert!(rt; scenario.listeners.len() < 1000);
     assert!(rt; scenario.clients.len() < 1000);
     judge(alloc, scenario)
 }

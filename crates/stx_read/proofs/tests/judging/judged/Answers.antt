@@ -3,7 +3,7 @@ use Rattle.stx_read.proofs.ShapeLaws.{named_rows, fresh_rows}
 use Rattle.stx_read.proofs.tests.judging.judged.Goals as goal
 
 pub judge-requires : goal.judge-requires
-judge-requires c =
+judge-requires g c =
     let S = c.args.scenario.now in
     record {
       classes = c.requires;
