@@ -1,4 +1,6 @@
-// What the pieces of the reader answer, by tables of cases.
+// What the reader and its pieces answer, by tables of cases.
 mod drafts;
+mod judging;
+mod reading;
 mod sentences;
 mod walks;

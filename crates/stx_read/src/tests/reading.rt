@@ -1,0 +1,35 @@
+// Whole files: those that state a scenario, and those that don't.
+use crate::read_scenario;
+use std::process::Abort;
+use std::test::Fail;
+
+static STATED: [&str; 3] = [
+    "clients = [{calls=[]}]",
+    "beans = [{name=\"b\"}]\nmethods = [{bean=\"b\",name=\"m\",tx={},body=[\"write a 5\",\"read a\"]}]\nclients = [{calls=[\"b.m\"]}]\n",
+    "events=[\"e\"]\nsettings={pool=64,sync=\"never\",nested=false}\nclasses=[{name=\"app.Soft\",parent=\"Exception\"}]\nbeans=[{name=\"b\",tx={propagation=\"requires_new\",rules=[\"keep ~Soft\"]}}]\nmethods=[{bean=\"b\",name=\"m\",body=[\"this n catch app.Soft\",\"publish e\"]},{bean=\"b\",name=\"n\"}]\nlisteners=[{name=\"l\",event=\"e\",body=[\"call b.n\"]}]\nclients=[{calls=[\"b.m\"]}]\n",
+];
+
+#[test]
+fn scenarios_are_read(rt: HostRuntime) -> Result<(), Fail> {
+    let alloc = rt.alloc();
+    for text in STATED.iter() {
+        assert!(rt; read_scenario(alloc, text.as_bytes()).is_ok());
+    }
+    Ok(())
+}
+
+static REFUSED: [&str; 4] = [
+    "",
+    "clients = [{calls=[]}]\nclient = 1",
+    "clients = [{calls=[\"b.m\"]}]",
+    "clients = ",
+];
+
+#[test]
+fn other_files_are_refused(rt: HostRuntime) -> Result<(), Fail> {
+    let alloc = rt.alloc();
+    for text in REFUSED.iter() {
+        assert!(rt; read_scenario(alloc, text.as_bytes()).is_err());
+    }
+    Ok(())
+}
