@@ -1,5 +1,5 @@
 -- What is read is valid.
-use Rattle.std.proofs.Common.{◌≡◌, None, length, take, refl, ap, ◌∙◌}
+use Rattle.std.proofs.Common.{◌≡◌, None, codes, length, map, take}
 use Rattle.toml.specs.Data.{Members}
 use Rattle.stx_scenario.specs.declared.scenario.Scenario.{Scenario}
 use Rattle.stx_scenario.specs.BuiltIn.{built_in}
@@ -8,7 +8,8 @@ use Rattle.stx_read.specs.Faults.{first_at}
 use Rattle.stx_read.specs.Walk.{document_faults}
 use Rattle.stx_read.specs.Duplicates.{duplicate_among, names_in}
 use Rattle.stx_read.specs.Reading.{refused_in}
-use Rattle.stx_read.specs.Draft.{drafted}
+use Rattle.stx_read.specs.Parts.{tables_at}
+use Rattle.stx_read.specs.Draft.{all_names, class_in, drafted}
 use Rattle.stx_read.specs.Judge.{IsFew, IsValid, judged}
 use Rattle.stx_read.proofs.CountLaws.{few_parts}
 use Rattle.stx_read.proofs.DraftLaws.{shaped, take-first}
@@ -18,7 +19,7 @@ use Rattle.stx_read.proofs.QuietLaws.{some_none}
 
 pub begins_built_in : (root : Members) → take (length built_in) (drafted root).classes ≡ built_in
 unfolding drafted
-begins_built_in root = take-first built_in _
+begins_built_in root = take-first built_in (map (class_in (all_names root)) (tables_at (codes "classes") root))
 
 pub valid_draft : (root : Members) → IsFew (length (drafted root).row_names) → judged (drafted root) ≡ None → IsValid (drafted root)
 valid_draft root rows accepted =
