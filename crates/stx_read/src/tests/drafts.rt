@@ -3,12 +3,12 @@ use crate::document::document;
 use crate::draft::drafted;
 use crate::duplicates::duplicate_among;
 use crate::fault::ReadFault;
-use crate::named::{names_in, names_of};
+use crate::named::names_in;
 use std::alloc::Global;
 use std::fmt::Write;
 use std::process::Abort;
 use std::test::Fail;
-use stx_scenario::{Phase, Propagation, Scenario, Stmt, SyncMode};
+use stx_scenario::{Scenario, Stmt};
 
 /// A document, and the place of the first name that stands twice, or nothing.
 struct Twice {
@@ -65,18 +65,26 @@ static NAMES: [Twice; 11] = [
     },
 ];
 
+/// The place of a name that stands twice, or nothing.
+fn place_of(alloc: Global, fault: &Option<ReadFault>) -> Result<String, Fail> {
+    if let Some(ReadFault::Duplicate(path)) = fault {
+        return Ok(String::from_str(alloc, path.as_str())?);
+    }
+    Ok(String::new(alloc))
+}
+
+fn first_twice(alloc: Global, input: &str) -> Result<String, Fail> {
+    let root = document(alloc, input.as_bytes()).ok().ok_or("no document")?;
+    let named = names_in(alloc, &root)?;
+    let fault = duplicate_among(alloc, &named)?;
+    place_of(alloc, &fault)
+}
+
 #[test]
 fn names_that_stand_twice_are_found(rt: HostRuntime) -> Result<(), Fail> {
-    let alloc = rt.alloc();
     for case in NAMES.iter() {
-        let root = document(alloc, case.input.as_bytes())
-            .ok()
-            .ok_or("no document")?;
-        let named = names_in(alloc, &root)?;
-        match duplicate_among(alloc, &named)? {
-            Some(ReadFault::Duplicate(path)) => assert_eq!(rt; path.as_str(), case.path),
-            _ => assert_eq!(rt; "", case.path),
-        }
+        let place = first_twice(rt.alloc(), case.input)?;
+        assert_eq!(rt; place.as_str(), case.path);
     }
     Ok(())
 }
@@ -84,16 +92,32 @@ fn names_that_stand_twice_are_found(rt: HostRuntime) -> Result<(), Fail> {
 fn draft_of(alloc: Global, input: &str) -> Result<Scenario, Fail> {
     let root = document(alloc, input.as_bytes()).ok().ok_or("no document")?;
     let named = names_in(alloc, &root)?;
-    if duplicate_among(alloc, &named)?.is_some() {
-        return Err("a name stands twice".into());
+    match duplicate_among(alloc, &named)? {
+        Some(_) => Err("a name stands twice".into()),
+        None => Ok(drafted(alloc, &root)?),
     }
-    Ok(drafted(alloc, &root)?)
 }
 
-fn body_text(alloc: Global, body: &[Stmt]) -> Result<String, Fail> {
-    let mut text = String::new(alloc);
+fn write_body(text: &mut String, body: &[Stmt]) -> Result<(), Fail> {
     for statement in body {
         write!(text, "{statement:?};")?;
+    }
+    Ok(())
+}
+
+/// The statements of all methods, one after the other.
+fn bodies(alloc: Global, scenario: &Scenario) -> Result<String, Fail> {
+    let mut text = String::new(alloc);
+    for method in scenario.methods.as_slice() {
+        write_body(&mut text, method.body.as_slice())?;
+    }
+    Ok(text)
+}
+
+fn rows(alloc: Global, scenario: &Scenario) -> Result<String, Fail> {
+    let mut text = String::new(alloc);
+    for row in scenario.row_names.as_slice() {
+        text.push_str(row.as_str())?;
     }
     Ok(text)
 }
@@ -109,48 +133,49 @@ rows = [{name="b", value=2}, {name="a", value=-1}]
 fn rows_are_numbered_as_the_walk_meets_them(rt: HostRuntime) -> Result<(), Fail> {
     let alloc = rt.alloc();
     let scenario = draft_of(alloc, ROWS)?;
-    let mut names = String::new(alloc);
-    for row in scenario.row_names.as_slice() {
-        names.push_str(row.as_str())?;
-    }
-    assert_eq!(rt; names.as_str(), "bazyxuwv");
-    assert_eq!(rt; scenario.values.as_slice(), [2, -1].as_slice());
-    let body = body_text(alloc, scenario.methods.as_slice()[0].body.as_slice())?;
+    let rows = rows(alloc, &scenario)?;
+    assert_eq!(rt; rows.as_str(), "bazyxuwv");
+    let bodies = bodies(alloc, &scenario)?;
     assert_eq!(rt;
-        body.as_str(),
+        bodies.as_str(),
         "Read(RowNo(2));Write(RowNo(1), 1);Need(RowNo(3), 3);Mark;Read(RowNo(2));"
     );
-    let named = names_of(alloc, &scenario)?;
-    assert_eq!(rt; named.rows.len(), 2);
-    assert_eq!(rt; named.classes.len(), 0);
-    assert_eq!(rt; named.methods.as_slice()[0].as_str(), "4294967295.m");
+    Ok(())
+}
+
+fn write_beans(text: &mut String, scenario: &Scenario) -> Result<(), Fail> {
+    for bean in scenario.beans.as_slice() {
+        write!(text, "{:?};", bean.tx)?;
+    }
+    Ok(())
+}
+
+fn write_listeners(text: &mut String, scenario: &Scenario) -> Result<(), Fail> {
+    for listener in scenario.listeners.as_slice() {
+        write!(
+            text,
+            "{:?} {} {} {};",
+            listener.phase, listener.order, listener.fallback, listener.event.0
+        )?;
+    }
     Ok(())
 }
 
 #[test]
 fn keys_have_defaults(rt: HostRuntime) -> Result<(), Fail> {
+    let alloc = rt.alloc();
     let scenario = draft_of(
-        rt.alloc(),
-        "settings = {}\nbeans = [{name=\"b\"}, {name=\"c\", tx={}}]\nmethods = [{bean=\"b\", name=\"m\"}]\nsyncs = [{name=\"s\"}]\nlisteners = [{name=\"l\", event=\"e\"}]",
+        alloc,
+        "settings = {}\nbeans = [{name=\"b\"}, {name=\"c\", tx={}}]\nlisteners = [{name=\"l\", event=\"e\"}]",
     )?;
-    assert_eq!(rt; scenario.settings.pool, 8);
-    assert!(rt; scenario.settings.mode == SyncMode::Always && scenario.settings.nested);
-    assert_eq!(rt; scenario.classes.len(), 17);
-    assert!(rt; scenario.schedule.is_empty() && scenario.clients.is_empty());
-    assert!(rt; scenario.beans.as_slice()[0].tx.is_none());
-    match &scenario.beans.as_slice()[1].tx {
-        Some(tx) => {
-            assert!(rt; tx.propagation == Propagation::Required && !tx.read_only);
-            assert!(rt; tx.rules.is_empty());
-        }
-        None => assert!(rt; false, "no attribute"),
-    }
-    let method = &scenario.methods.as_slice()[0];
-    assert!(rt; method.tx.is_none() && method.body.is_empty());
-    assert_eq!(rt; scenario.syncs.as_slice()[0].order, 2147483647);
-    let listener = &scenario.listeners.as_slice()[0];
-    assert!(rt; listener.phase == Phase::AfterCommit && !listener.fallback);
-    assert_eq!(rt; listener.order, 2147483647);
+    let mut text = String::new(alloc);
+    write!(text, "{:?};", scenario.settings)?;
+    write_beans(&mut text, &scenario)?;
+    write_listeners(&mut text, &scenario)?;
+    assert_eq!(rt;
+        text.as_str(),
+        "Settings { pool: 8, mode: Always, nested: true };None;Some(TxAttr { propagation: Required, read_only: false, rules: List { items: [] } });AfterCommit 2147483647 false 4294967295;"
+    );
     Ok(())
 }
 
@@ -164,27 +189,33 @@ listeners = [{name="l", event="f"}]
 clients = [{calls=["b.m", "x.m", "b", "a.m.m"]}, {calls=[]}]
 "#;
 
+fn write_calls(text: &mut String, scenario: &Scenario) -> Result<(), Fail> {
+    for calls in scenario.clients.as_slice() {
+        for call in calls.as_slice() {
+            write!(text, "{} ", call.0)?;
+        }
+    }
+    Ok(())
+}
+
+fn write_callbacks(text: &mut String, scenario: &Scenario) -> Result<(), Fail> {
+    for sync in scenario.syncs.as_slice() {
+        write_body(text, sync.after_commit.as_slice())?;
+    }
+    Ok(())
+}
+
 #[test]
 fn names_become_numbers(rt: HostRuntime) -> Result<(), Fail> {
     let alloc = rt.alloc();
     let scenario = draft_of(alloc, REFERENCES)?;
-    let body = body_text(alloc, scenario.methods.as_slice()[1].body.as_slice())?;
+    let mut text = bodies(alloc, &scenario)?;
+    write_callbacks(&mut text, &scenario)?;
+    write_listeners(&mut text, &scenario)?;
+    write_calls(&mut text, &scenario)?;
     assert_eq!(rt;
-        body.as_str(),
-        "This { method: MethodNo(1), catch: None };This { method: MethodNo(4294967295), catch: None };Call { method: MethodNo(4294967295), catch: None };Call { method: MethodNo(0), catch: Some(ClassNo(17)) };Call { method: MethodNo(4294967295), catch: Some(ClassNo(4294967295)) };Throw(ClassNo(2));Publish(EventNo(1));Register(SyncNo(0));Register(SyncNo(4294967295));"
+        text.as_str(),
+        "This { method: MethodNo(1), catch: None };This { method: MethodNo(4294967295), catch: None };Call { method: MethodNo(4294967295), catch: None };Call { method: MethodNo(0), catch: Some(ClassNo(17)) };Call { method: MethodNo(4294967295), catch: Some(ClassNo(4294967295)) };Throw(ClassNo(2));Publish(EventNo(1));Register(SyncNo(0));Register(SyncNo(4294967295));This { method: MethodNo(4294967295), catch: Some(ClassNo(2)) };Call { method: MethodNo(1), catch: None };AfterCommit 2147483647 false 4294967295;1 4294967295 4294967295 4294967295 "
     );
-    let after = body_text(alloc, scenario.syncs.as_slice()[0].after_commit.as_slice())?;
-    assert_eq!(rt;
-        after.as_str(),
-        "This { method: MethodNo(4294967295), catch: Some(ClassNo(2)) };Call { method: MethodNo(1), catch: None };"
-    );
-    assert_eq!(rt; scenario.methods.as_slice()[2].bean.0, 4294967295);
-    assert_eq!(rt; scenario.listeners.as_slice()[0].event.0, 4294967295);
-    let mut calls = String::new(alloc);
-    for call in scenario.clients.as_slice()[0].as_slice() {
-        write!(calls, "{} ", call.0)?;
-    }
-    assert_eq!(rt; calls.as_str(), "1 4294967295 4294967295 4294967295 ");
-    assert_eq!(rt; scenario.clients.as_slice()[1].len(), 0);
     Ok(())
 }
