@@ -178,7 +178,7 @@ own_or_bean None None has own of_bean = absurd (false≢true has)
 -- ---- the scenario
 
 -- an entry of a list of which each is so
-entry_of : {A : Type 0} (P : A → Type 0) (xs : List A) (k : ℕ) (x : A) → All P xs → slice_get xs k ≡ Some x → P x
+pub entry_of : {A : Type 0} (P : A → Type 0) (xs : List A) (k : ℕ) (x : A) → All P xs → slice_get xs k ≡ Some x → P x
 entry_of P xs k x all there =
     subst P (get_or_from_slice_get xs k x x there) (All-get_or P xs k x (slice_get_within xs k x there) all)
 
