@@ -10,7 +10,7 @@ use Rattle.stx_read.specs.Faults.{first_at, first_some}
 use Rattle.stx_read.specs.Walk.{document_faults}
 use Rattle.stx_read.specs.Duplicates.{duplicate_among, names_in}
 use Rattle.stx_read.specs.Draft.{drafted}
-use Rattle.stx_read.specs.Judge.{judged}
+use Rattle.stx_read.specs.Judge.{scenario_faults, judged}
 
 -- the document that the bytes are
 abbrev pub document_of : List ℕ → Option Members
@@ -34,10 +34,14 @@ abbrev pub answer : Option ReadFault → Scenario → Result Scenario ReadFault
 answer (Some fault) S = Err fault
 answer None S = Ok S
 
--- the stages that remain look at the scenario
+-- the stages that remain look at the scenario, and the look-up of names is the first of them; where all that is named is
+-- there, the stages before it refuse nothing in a scenario whose document they accepted
+abbrev pub remaining : Scenario → Option ReadFault
+remaining S = first_some (first_at Stage.UnknownRef (scenario_faults S) ∷ judged S ∷ [])
+
 abbrev pub judged_scenario : Option ReadFault → Members → Result Scenario ReadFault
 judged_scenario (Some fault) root = Err fault
-judged_scenario None root = answer (judged (drafted root)) (drafted root)
+judged_scenario None root = answer (remaining (drafted root)) (drafted root)
 
 abbrev pub scenario_in : Option Members → Result Scenario ReadFault
 scenario_in None = Err ReadFault.NotToml

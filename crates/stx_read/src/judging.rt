@@ -2,7 +2,9 @@
 ghost use Rattle.std.specs.Prelude.{◌≡◌, ◌≢◌, length, take, Some, None, IfOk, IfErr, OnOk};
 ghost use Rattle.stx_scenario.specs.BuiltIn.{built_in};
 ghost use Rattle.stx_read.specs.declared.fault.ReadFault.{ReadFault as Fault};
-ghost use Rattle.stx_read.specs.Judge.{judged as refusal_of, IsShaped};
+ghost use Rattle.stx_read.specs.declared.fault.Stage.{Stage};
+ghost use Rattle.stx_read.specs.Faults.{first_at as first_of_stage};
+ghost use Rattle.stx_read.specs.Judge.{judged as refusal_of, scenario_faults as faults_of, IsShaped};
 
 mod arrays;
 mod callbacks;
@@ -15,7 +17,9 @@ mod stages;
 mod statements;
 mod texts;
 
-use crate::fault::ReadFault;
+use crate::fault::{ReadFault, Stage};
+use crate::faults::first_at;
+use arrays::scenario_faults;
 use callbacks::callback_fault;
 use calls::call_fault;
 use classes::class_tree;
@@ -34,6 +38,17 @@ pub fn judge(alloc: Global, scenario: &Scenario) -> Result<(), ReadFault>
         Ok(Some(fault)) => Err(fault),
         Err(NoMemory) => Err(ReadFault::NoMemory),
     }
+}
+
+/// The first place that names nothing.
+pub(crate) fn unknown_reference(
+    alloc: Global,
+    scenario: &Scenario,
+) -> Result<Option<ReadFault>, NoMemory>
+    ensures { IfOk result (λ fault. fault ≡ first_of_stage Stage.UnknownRef (faults_of scenario.now)) }
+{
+    let faults = scenario_faults(alloc, scenario)?;
+    first_at(alloc, Stage::UnknownRef, faults.as_slice())
 }
 
 /// The refusal of a scenario, of which only what the stages need is asked.

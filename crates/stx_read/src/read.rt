@@ -10,7 +10,7 @@ use crate::draft::drafted;
 use crate::duplicates::duplicate_among as first_duplicate;
 use crate::fault::{ReadFault, Stage};
 use crate::faults::first_at;
-use crate::judging::judged;
+use crate::judging::{judged, unknown_reference};
 use crate::named::names_in;
 use crate::walk::document_faults;
 use std::alloc::Global;
@@ -34,6 +34,10 @@ pub fn read_scenario(alloc: Global, bytes: &[u8]) -> Result<Scenario, ReadFault>
         return Err(fault);
     }
     let scenario = drafted(alloc, &root)?;
+    // before all else that is judged: methods of beans that aren't there are all of one bean by its number
+    if let Some(fault) = unknown_reference(alloc, &scenario)? {
+        return Err(fault);
+    }
     match judged(alloc, &scenario)? {
         Some(fault) => Err(fault),
         None => Ok(scenario),

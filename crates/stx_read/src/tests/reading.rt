@@ -1,5 +1,6 @@
 // Whole files: those that state a scenario, and those that don't.
-use crate::read_scenario;
+use crate::{ReadFault, read_scenario};
+use std::alloc::Global;
 use std::process::Abort;
 use std::test::Fail;
 
@@ -14,6 +15,37 @@ fn scenarios_are_read(rt: HostRuntime) -> Result<(), Fail> {
     let alloc = rt.alloc();
     for text in STATED.iter() {
         assert!(rt; read_scenario(alloc, text.as_bytes()).is_ok());
+    }
+    Ok(())
+}
+
+/// Files whose first unknown name is told, and its path.
+static UNKNOWN: [(&str, &str); 3] = [
+    // two methods of one name, of two beans that aren't there
+    (
+        "methods=[{bean=\"x\",name=\"m\"},{bean=\"y\",name=\"m\"}]\nclients=[{calls=[]}]",
+        "methods[0].bean",
+    ),
+    (
+        "schedule=[9]\nmethods=[{bean=\"x\",name=\"m\"},{bean=\"y\",name=\"m\"}]\nclients=[{calls=[]}]",
+        "schedule[0]",
+    ),
+    ("clients=[{calls=[\"b.m\"]}]", "clients[0].calls[0]"),
+];
+
+fn unknown_in(text: &str, alloc: Global) -> Result<String, Fail> {
+    let read = read_scenario(alloc, text.as_bytes());
+    if let Err(ReadFault::UnknownRef(path)) = &read {
+        return Ok(String::from_str(alloc, path.as_str())?);
+    }
+    Ok(String::new(alloc))
+}
+
+#[test]
+fn unknown_names_are_told(rt: HostRuntime) -> Result<(), Fail> {
+    for (text, path) in UNKNOWN.iter() {
+        let told = unknown_in(text, rt.alloc())?;
+        assert_eq!(rt; told.as_str(), *path);
     }
     Ok(())
 }

@@ -17,5 +17,5 @@ pub returns-clause-valid : goal.returns-clause-valid
 returns-clause-valid c =
     let stated = c.in_ok-scenario.ensures.drafted in
     let few = subst (λ (S : Scenario). IsFew (length S.row_names)) stated c.in_ok-scenario.ensures.few_rows in
-    let accepted = ap judged (sym stated) ∙ sym c.in_ok-fault-2.ensures ∙ c.in-None.is in
+    let accepted = ap judged (sym stated) ∙ sym c.in_ok-fault-3.ensures ∙ c.in-None.is in
     subst IsValid (sym stated) (valid_draft (table_view c.in-Ok.root) few accepted)
