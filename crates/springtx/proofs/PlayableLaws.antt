@@ -15,9 +15,9 @@ use Rattle.stx_scenario.specs.declared.scenario.Method.{Method}
 use Rattle.stx_scenario.specs.declared.scenario.Propagation.{Propagation}
 use Rattle.stx_scenario.specs.declared.scenario.TxAttr.{TxAttr}
 use Rattle.stx_scenario.specs.declared.scenario.Stmt.{Stmt}
-use Rattle.stx_model.specs.declared.cost.Cost.{Cost}
-use Rattle.stx_model.specs.Attributes.{bean_attribute, method_attribute}
-use Rattle.stx_model.specs.Weight.{one, plus, total, body_in, body_of, statement_cost, cost, cost_within, client_weight, weight}
+use Rattle.stx_base.specs.declared.cost.Cost.{Cost}
+use Rattle.stx_base.specs.Attributes.{bean_attribute, method_attribute}
+use Rattle.stx_base.specs.Weight.{one, plus, total, body_in, body_of, statement_cost, cost, cost_within, client_weight, weight}
 use Rattle.stx_model.specs.Flat.{IsFlat, IsFlatMethod, AreFlatCalls, IsFlatAttribute, HasFlatAttribute, is_flat, call_weight, calls_weight, flat_weight}
 use Rattle.stx_read.specs.Faults.{under, entry, first_some}
 use Rattle.stx_read.specs.Judge.{names_known, IsShaped}

@@ -1,6 +1,6 @@
 -- A source that was read to its end lost no more bytes than it had; a job that was done, and what became of its text.
 use Rattle.std.proofs.Common.{◌≡◌, ◌≤◌, ℕ, List, length, Option, Some, None, sym, subst, ◌∙◌, append-nil}
-use Rattle.stx_model.specs.declared.outcome.Report.{Report}
+use Rattle.stx_base.specs.declared.outcome.Report.{Report}
 use Rattle.stx_outside.specs.Streams.{LosesAll, LosesWithin}
 use Rattle.stx_words.specs.declared.job.Job.{Job}
 use Rattle.springtx.specs.Tool.{IsDone}

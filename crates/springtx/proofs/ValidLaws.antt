@@ -7,7 +7,7 @@ use Rattle.stx_scenario.specs.declared.scenario.Scenario.{Scenario}
 use Rattle.stx_scenario.specs.declared.scenario.Bean.{Bean}
 use Rattle.stx_scenario.specs.declared.scenario.Method.{Method}
 use Rattle.stx_scenario.specs.declared.scenario.TxAttr.{TxAttr}
-use Rattle.stx_model.specs.Attributes.{bean_attribute, method_attribute, attribute}
+use Rattle.stx_base.specs.Attributes.{bean_attribute, method_attribute, attribute}
 use Rattle.stx_graph.specs.declared.graph.GraphFault.{GraphFault}
 use Rattle.stx_graph.specs.Graph.{IsDue}
 use Rattle.stx_read.specs.Judge.{IsValid}

@@ -1,9 +1,9 @@
 // The text that answers a job and a scenario's bytes, made whole before anything is written.
 ghost use Rattle.std.specs.Prelude.{◌≡◌, ◌≢◌, IfOk, OnOk, None, true};
 ghost use Rattle.stx_model.specs.Faithful.{Faithful};
-ghost use Rattle.stx_model.specs.Report.{printed};
-ghost use Rattle.stx_model.specs.RulesText.{rules_text as text_of_rules};
-ghost use Rattle.stx_model.specs.Weight.{weight as weight_in};
+ghost use Rattle.stx_base.specs.Report.{printed};
+ghost use Rattle.stx_base.specs.RulesText.{rules_text as text_of_rules};
+ghost use Rattle.stx_base.specs.Weight.{weight as weight_in};
 ghost use Rattle.stx_read.specs.Judge.{IsValid};
 ghost use Rattle.stx_read.specs.Refusals.{refusal_text as text_of_refusal};
 ghost use Rattle.stx_words.specs.Jobs.{is_built};
@@ -14,7 +14,7 @@ use crate::not_yet::{not_yet, not_yet_text};
 use std::alloc::Global;
 use stx_client::Setup;
 use stx_graph::{Graph, GraphFault};
-use stx_model::Report;
+use stx_base::Report;
 use stx_play::play;
 use stx_read::{ReadFault, read_scenario};
 use stx_report::{check_text, print, refusal_text, rules_text};

@@ -3,7 +3,7 @@ use super::tool;
 use std::alloc::{AllocError, Global};
 use std::process::Abort;
 use std::test::Fail;
-use stx_model::ToolEnd;
+use stx_base::ToolEnd;
 use stx_outside::{MemorySink, MemorySource};
 
 const ROOM: usize = 1_048_576;

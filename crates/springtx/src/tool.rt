@@ -6,7 +6,7 @@ ghost use Rattle.springtx.specs.Tool.{is_status, is_early, most_bytes, IsAnswere
 
 use crate::answer::{Answer, answer_to};
 use std::alloc::Global;
-use stx_model::{Report, ToolEnd};
+use stx_base::{Report, ToolEnd};
 use stx_outside::{ReadEnd, Sink, Source, read_whole, write_whole};
 use stx_words::{WordsFault, read_words};
 

@@ -2,7 +2,7 @@
 ghost use Rattle.std.specs.Prelude.{◌≡◌, IfOk, slice_get};
 ghost use Rattle.std.specs.Option.{option_and_then, option_copied};
 ghost use Rattle.stx_scenario.specs.declared.scenario.Scenario.{Scenario as ScenarioData};
-ghost use Rattle.stx_model.specs.Attributes.{attribute, attributes, method_attribute};
+ghost use Rattle.stx_base.specs.Attributes.{attribute, attributes, method_attribute};
 
 use std::alloc::Global;
 use std::marker::Model;

@@ -3,7 +3,7 @@ use Rattle.std.proofs.Common.{◌≡◌, ℕ, zero, suc, ◌+◌, ◌-◌, ◌<�
 use Rattle.std.specs.Option.{is_some, option_and_then}
 use Rattle.std.proofs.lemmas.Bool.{false≢true, cases_Bool, cases_lt}
 use Rattle.std.proofs.lemmas.Option.{option_and_then_some, same_Some, none-some}
-use Rattle.stx_model.specs.Classes.{Parents, parent_in, above_in, one_more, bounded_steps_in, depth_in, is_below_in, is_own_ancestor}
+use Rattle.stx_base.specs.Classes.{Parents, parent_in, above_in, one_more, bounded_steps_in, depth_in, is_below_in, is_own_ancestor}
 use Rattle.stx_classes.proofs.WayLaws.{way_on, way_back, ways_join, ways_split, NoReturn, way_short}
 
 -- ---- what a count of steps says

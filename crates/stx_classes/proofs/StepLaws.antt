@@ -1,7 +1,7 @@
 -- A walk up the tree: how many steps are left after some.
 use Rattle.std.proofs.Common.{◌≡◌, ℕ, suc, ◌+◌, ◌-◌, ◌<◌, ◌≤◌, Bool, true, false, Option, Some, None, refl, sym, ap, arith}
 use Rattle.std.specs.Option.{option_map}
-use Rattle.stx_model.specs.Classes.{Parents, parent_in, one_more, bounded_steps_in}
+use Rattle.stx_base.specs.Classes.{Parents, parent_in, one_more, bounded_steps_in}
 
 -- the steps, with those made so far
 abbrev pub more_by : ℕ → Option ℕ → Option ℕ

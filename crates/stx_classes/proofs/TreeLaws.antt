@@ -6,7 +6,7 @@ use Rattle.std.proofs.lemmas.Option.{none-some}
 use Rattle.std.proofs.lemmas.List.{length-map}
 use Rattle.stx_scenario.specs.declared.scenario.ClassDecl.{ClassDecl}
 use Rattle.stx_scenario.specs.declared.classes.TheConstants.{THROWABLE}
-use Rattle.stx_model.specs.Classes.{Parents, parent_in, above_in, depth_in, has_unknown_parent, is_own_ancestor, is_too_deep, is_unknown, is_over, parents_of, deepest, first_class}
+use Rattle.stx_base.specs.Classes.{Parents, parent_in, above_in, depth_in, has_unknown_parent, is_own_ancestor, is_too_deep, is_unknown, is_over, parents_of, deepest, first_class}
 use Rattle.stx_classes.specs.Laws.{DepthIsFewest, BelowIsAWay, OwnAncestorIsAWay, TreeReachesThrowable}
 use Rattle.stx_classes.proofs.WayLaws.{way_on, way_back, ways_join, has_parent, NoReturn, way_short}
 use Rattle.stx_classes.proofs.DepthLaws.{depth_fewest, fewest_depth, way_depth, below_way, way_below, own_way, way_own}

@@ -5,8 +5,8 @@ use Rattle.std.specs.List.{list_any, AllByRecursion, IsDistinct}
 use Rattle.std.proofs.lemmas.Bool.{false≢true, cases_Bool, or_cases}
 use Rattle.std.proofs.lemmas.Option.{option_and_then_some, same_Some, slice_get_within}
 use Rattle.std.proofs.lemmas.Map.Steps.{length-le_from_distinct_below}
-use Rattle.stx_model.proofs.HistoryLaws.{or-false, or_none}
-use Rattle.stx_model.specs.Classes.{Parents, number_above, parent_in, above_in}
+use Rattle.stx_base.proofs.HistoryLaws.{or-false, or_none}
+use Rattle.stx_base.specs.Classes.{Parents, number_above, parent_in, above_in}
 
 -- ---- one step, and ways one after the other
 

@@ -2,7 +2,7 @@
 use Rattle.std.specs.Prelude.{◌≡◌, ◌↔◌, ℕ, ◌<◌, ◌≤◌, IsTrue, List, length, Some}
 use Rattle.stx_scenario.specs.declared.scenario.ClassDecl.{ClassDecl}
 use Rattle.stx_scenario.specs.declared.classes.TheConstants.{THROWABLE}
-use Rattle.stx_model.specs.Classes.{above, depth, is_below, is_own_ancestor, parents_of, deepest, IsTree}
+use Rattle.stx_base.specs.Classes.{above, depth, is_below, is_own_ancestor, parents_of, deepest, IsTree}
 
 -- n steps lead from a up to b, and no fewer do
 pub record IsFewest (classes : List ClassDecl) (a b n : ℕ) : Type 0 where

@@ -1,7 +1,7 @@
 // The tree itself, made from the declarations of the classes.
 ghost use Rattle.std.specs.Prelude.{◌≡◌, ◌<◌, ◌^◌, length, take, IfOk, IfErr, OnOk};
 ghost use Rattle.stx_scenario.specs.BuiltIn.{built_in};
-ghost use Rattle.stx_model.specs.Classes.{parents_of, depth_in, is_below_in, IsTree};
+ghost use Rattle.stx_base.specs.Classes.{parents_of, depth_in, is_below_in, IsTree};
 ghost use Rattle.stx_classes.specs.Tree.{IsDue};
 
 use crate::ClassFault;
@@ -18,7 +18,7 @@ pub struct ClassTree {
 
 impl Model for ClassTree {
     ghost use Rattle.std.specs.Prelude.{length, ◌<◌, ◌^◌};
-    ghost use Rattle.stx_model.specs.Classes.{Parents};
+    ghost use Rattle.stx_base.specs.Classes.{Parents};
 
     ghost Value = { Parents };
 

@@ -3,16 +3,16 @@ use Rattle.std.proofs.Common.{◌≡◌, ℕ, ◌+◌, ◌++◌, ◌∷◌, [], 
 use Rattle.stx_scenario.specs.declared.scenario.Scenario.{Scenario}
 use Rattle.std.specs.Prelude.{if◌then◌else◌}
 use Rattle.std.proofs.lemmas.Bool.{false≢true}
-use Rattle.stx_model.specs.declared.call.Want.{Want}
-use Rattle.stx_model.specs.declared.call.Reply.{Reply}
-use Rattle.stx_model.specs.declared.history.Access.{Access}
-use Rattle.stx_model.specs.declared.history.Answer.{Answer}
-use Rattle.stx_model.specs.declared.history.PoolNote.{PoolNote}
-use Rattle.stx_model.specs.declared.history.StoreNote.{StoreNote}
-use Rattle.stx_model.specs.declared.line.Line.{Line}
-use Rattle.stx_model.specs.declared.manager.Ending.{Ending}
+use Rattle.stx_base.specs.declared.call.Want.{Want}
+use Rattle.stx_base.specs.declared.call.Reply.{Reply}
+use Rattle.stx_base.specs.declared.history.Access.{Access}
+use Rattle.stx_base.specs.declared.history.Answer.{Answer}
+use Rattle.stx_base.specs.declared.history.PoolNote.{PoolNote}
+use Rattle.stx_base.specs.declared.history.StoreNote.{StoreNote}
+use Rattle.stx_base.specs.declared.line.Line.{Line}
+use Rattle.stx_base.specs.declared.manager.Ending.{Ending}
 use Rattle.stx_model.specs.Meanings.{Stops, state_of, stop_of, and_then, finally, ask}
-use Rattle.stx_model.specs.Weight.{body_of}
+use Rattle.stx_base.specs.Weight.{body_of}
 use Rattle.stx_model.specs.Script.{script, tops, calls_of, body, access_row, completes, gives_back, begins, fresh}
 use Rattle.stx_model.specs.Reads.{ReadsAll}
 use Rattle.stx_model.proofs.Growth.{Grows, finally_grows, and_then_grows, access_grows, nothing_grows, needed_grows, added_grows, body_grows, ends_grows, gives_back_grows, completes_grows, begins_grows, fresh_grows, tops_grows}

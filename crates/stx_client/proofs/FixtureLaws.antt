@@ -8,7 +8,7 @@ use Rattle.stx_scenario.specs.declared.scenario.Scenario.{Scenario}
 use Rattle.stx_scenario.specs.declared.scenario.Bean.{Bean}
 use Rattle.stx_scenario.specs.declared.scenario.Method.{Method}
 use Rattle.stx_scenario.specs.declared.scenario.TxAttr.{TxAttr}
-use Rattle.stx_model.specs.Attributes.{bean_attribute, method_attribute}
+use Rattle.stx_base.specs.Attributes.{bean_attribute, method_attribute}
 use Rattle.stx_model.specs.Flat.{IsFlat, IsFlatMethod, AreFlatCalls, IsFlatAttribute, HasFlatAttribute, is_flat}
 use Rattle.stx_client.specs.Fixture.{AreClasses, HasFlatTx}
 

@@ -1,11 +1,11 @@
 -- Answers of the right kind make a note of their call.
 use Rattle.std.proofs.Common.{◌≡◌, ℕ, ◌==◌, true, refl, eq-eqb}
 use Rattle.std.proofs.lemmas.Bool.Decides.{Decides-int_eq}
-use Rattle.stx_model.specs.declared.call.Want.{Want}
-use Rattle.stx_model.specs.declared.call.Reply.{Reply}
-use Rattle.stx_model.specs.declared.call.StoreAnswer.{StoreAnswer}
-use Rattle.stx_model.specs.declared.history.Access.{Access}
-use Rattle.stx_model.specs.declared.history.Answer.{Answer}
+use Rattle.stx_base.specs.declared.call.Want.{Want}
+use Rattle.stx_base.specs.declared.call.Reply.{Reply}
+use Rattle.stx_base.specs.declared.call.StoreAnswer.{StoreAnswer}
+use Rattle.stx_base.specs.declared.history.Access.{Access}
+use Rattle.stx_base.specs.declared.history.Answer.{Answer}
 use Rattle.stx_model.specs.Meanings.{same_access, suits}
 use Rattle.stx_client.specs.View.{is_reply_to}
 

@@ -11,15 +11,15 @@ use Rattle.stx_scenario.specs.declared.scenario.Scenario.{Scenario}
 use Rattle.stx_scenario.specs.declared.scenario.Method.{Method}
 use Rattle.stx_scenario.specs.declared.scenario.Stmt.{Stmt}
 use Rattle.stx_scenario.specs.declared.scenario.TxAttr.{TxAttr}
-use Rattle.stx_model.specs.declared.call.Want.{Want}
-use Rattle.stx_model.specs.declared.history.Access.{Access}
-use Rattle.stx_model.specs.declared.history.PoolNote.{PoolNote}
-use Rattle.stx_model.specs.declared.history.StoreNote.{StoreNote}
-use Rattle.stx_model.specs.declared.line.Line.{Line}
-use Rattle.stx_model.specs.Attributes.{attribute, method_attribute}
+use Rattle.stx_base.specs.declared.call.Want.{Want}
+use Rattle.stx_base.specs.declared.history.Access.{Access}
+use Rattle.stx_base.specs.declared.history.PoolNote.{PoolNote}
+use Rattle.stx_base.specs.declared.history.StoreNote.{StoreNote}
+use Rattle.stx_base.specs.declared.line.Line.{Line}
+use Rattle.stx_base.specs.Attributes.{attribute, method_attribute}
 use Rattle.stx_model.specs.Contexts.{bare}
 use Rattle.stx_model.specs.Meanings.{State, Stops, Meaning, and_then, finally, say}
-use Rattle.stx_model.specs.Weight.{body_in, body_of}
+use Rattle.stx_base.specs.Weight.{body_in, body_of}
 use Rattle.stx_model.specs.Script.{body, statement, statement_in, access_row, throws, fresh, opening_of, intercepted, invoke, tops, calls_of}
 use Rattle.stx_model.specs.Flat.{IsFlat, IsFlatAttribute, HasFlatAttribute, default_attribute, is_flat}
 use Rattle.stx_client.specs.declared.stage.Scope.{Scope}

@@ -5,8 +5,8 @@ use Rattle.std.specs.Int.{w64}
 use Rattle.std.proofs.lemmas.Bool.{and_parts, ltb-true, lt-ltb, leb-true, le-leb}
 use Rattle.stx_scenario.specs.declared.numbers.RowNo.{RowNo}
 use Rattle.stx_scenario.specs.declared.classes.TheConstants.{ARITHMETIC_EXCEPTION}
-use Rattle.stx_model.specs.declared.history.Access.{Access}
-use Rattle.stx_model.specs.declared.history.Answer.{Answer}
+use Rattle.stx_base.specs.declared.history.Access.{Access}
+use Rattle.stx_base.specs.declared.history.Answer.{Answer}
 use Rattle.stx_model.specs.Meanings.{State, Result}
 use Rattle.stx_model.specs.Script.{is_value, value_of, unless_busy, throws, access_row, nothing_more, added}
 use Rattle.stx_scenario.specs.declared.scenario.Scenario.{Scenario}

@@ -3,7 +3,7 @@ use Rattle.std.specs.Prelude.{◌≡◌, List, length, take}
 use Rattle.stx_scenario.specs.declared.scenario.ClassDecl.{ClassDecl}
 use Rattle.stx_scenario.specs.declared.scenario.Bean.{Bean}
 use Rattle.stx_scenario.specs.BuiltIn.{built_in}
-use Rattle.stx_model.specs.Classes.{IsTree}
+use Rattle.stx_base.specs.Classes.{IsTree}
 use Rattle.stx_model.specs.Flat.{HasFlatAttribute}
 
 -- two classes beside the built-in ones

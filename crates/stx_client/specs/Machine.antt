@@ -4,17 +4,17 @@ use Rattle.stx_scenario.specs.declared.numbers.ClassNo.{ClassNo}
 use Rattle.stx_scenario.specs.declared.numbers.MethodNo.{MethodNo}
 use Rattle.stx_scenario.specs.declared.scenario.Scenario.{Scenario}
 use Rattle.stx_scenario.specs.declared.scenario.TxAttr.{TxAttr}
-use Rattle.stx_model.specs.declared.call.Want.{Want}
+use Rattle.stx_base.specs.declared.call.Want.{Want}
 use Rattle.stx_scenario.specs.declared.scenario.Stmt.{Stmt}
-use Rattle.stx_model.specs.declared.history.Access.{Access}
-use Rattle.stx_model.specs.declared.history.Answer.{Answer}
-use Rattle.stx_model.specs.declared.history.PoolNote.{PoolNote}
-use Rattle.stx_model.specs.declared.history.StoreNote.{StoreNote}
-use Rattle.stx_model.specs.declared.line.Line.{Line}
-use Rattle.stx_model.specs.Attributes.{attribute}
+use Rattle.stx_base.specs.declared.history.Access.{Access}
+use Rattle.stx_base.specs.declared.history.Answer.{Answer}
+use Rattle.stx_base.specs.declared.history.PoolNote.{PoolNote}
+use Rattle.stx_base.specs.declared.history.StoreNote.{StoreNote}
+use Rattle.stx_base.specs.declared.line.Line.{Line}
+use Rattle.stx_base.specs.Attributes.{attribute}
 use Rattle.stx_model.specs.Contexts.{Context, bare}
 use Rattle.stx_model.specs.Meanings.{State, Result, Stops, Breaks, Meaning, and_then, finally}
-use Rattle.stx_model.specs.Weight.{body_of}
+use Rattle.stx_base.specs.Weight.{body_of}
 use Rattle.stx_model.specs.Script.{is_value, body, unless_busy, access_row, nothing_more, needed, added, ends, ending_call, completes, gives_back, opened, begins, fresh, fresh_context, owns_fresh, tops, calls_of}
 use Rattle.stx_model.specs.Flat.{default_attribute}
 use Rattle.stx_client.specs.declared.stage.Scope.{Scope}

@@ -1,16 +1,16 @@
 -- A client as contracts see it, and what its fields keep true.
 use Rattle.std.specs.Prelude.{◌≡◌, ◌<◌, ℕ, Bool, false, List, [], ◌∷◌, ◌++◌, length, Option, Some, None}
 use Rattle.stx_scenario.specs.declared.scenario.Scenario.{Scenario}
-use Rattle.stx_model.specs.declared.call.Want.{Want}
-use Rattle.stx_model.specs.declared.call.Call.{Call}
-use Rattle.stx_model.specs.declared.call.PoolCall.{PoolCall}
-use Rattle.stx_model.specs.declared.call.StoreCall.{StoreCall}
-use Rattle.stx_model.specs.declared.call.Reply.{Reply}
-use Rattle.stx_model.specs.declared.call.PoolAnswer.{PoolAnswer}
-use Rattle.stx_model.specs.declared.call.StoreAnswer.{StoreAnswer}
-use Rattle.stx_model.specs.declared.history.PoolNote.{PoolNote}
-use Rattle.stx_model.specs.declared.history.StoreNote.{StoreNote}
-use Rattle.stx_model.specs.declared.line.Line.{Line}
+use Rattle.stx_base.specs.declared.call.Want.{Want}
+use Rattle.stx_base.specs.declared.call.Call.{Call}
+use Rattle.stx_base.specs.declared.call.PoolCall.{PoolCall}
+use Rattle.stx_base.specs.declared.call.StoreCall.{StoreCall}
+use Rattle.stx_base.specs.declared.call.Reply.{Reply}
+use Rattle.stx_base.specs.declared.call.PoolAnswer.{PoolAnswer}
+use Rattle.stx_base.specs.declared.call.StoreAnswer.{StoreAnswer}
+use Rattle.stx_base.specs.declared.history.PoolNote.{PoolNote}
+use Rattle.stx_base.specs.declared.history.StoreNote.{StoreNote}
+use Rattle.stx_base.specs.declared.line.Line.{Line}
 use Rattle.stx_model.specs.Meanings.{Result, state_of, pool_answers, store_answers}
 use Rattle.stx_model.specs.Script.{script}
 use Rattle.stx_model.specs.Flat.{IsFlat}

@@ -1,7 +1,7 @@
 // The statements of a body, each up to the access that it wants.
 ghost use Rattle.std.specs.Prelude.{◌≡◌, ◌≤◌, ℕ, true, None};
 ghost use Rattle.stx_scenario.specs.declared.scenario.Stmt.{Stmt as StmtData};
-ghost use Rattle.stx_model.specs.declared.history.Access.{Access as AccessData};
+ghost use Rattle.stx_base.specs.declared.history.Access.{Access as AccessData};
 ghost use Rattle.stx_client.specs.declared.stage.Stage.{Stage as StageData};
 ghost use Rattle.stx_client.specs.declared.stage.Then.{Then as ThenData};
 ghost use Rattle.stx_model.specs.Flat.{IsFlat, is_flat};
@@ -11,7 +11,7 @@ ghost use Rattle.stx_client.specs.Machine.{Comes, IsIn, IsMethod, access_in, goe
 use crate::ending::{ended, thrown};
 use crate::setup::Setup;
 use crate::stage::{Scope, Stage, Then};
-use stx_model::{Access, Answer, Line};
+use stx_base::{Access, Answer, Line};
 use stx_scenario::{
     ARITHMETIC_EXCEPTION, CANNOT_ACQUIRE_LOCK_EXCEPTION, ClassNo, ILLEGAL_STATE_EXCEPTION, Roomy,
     RowNo, Stmt,

@@ -8,7 +8,7 @@ ghost use Rattle.stx_client.specs.Machine.{Runs, IsMethod, IsSound, attribute_of
 
 use crate::setup::Setup;
 use crate::stage::{At, Stage};
-use stx_model::Line;
+use stx_base::Line;
 use stx_scenario::{ClassNo, MethodNo, Roomy, TxAttr};
 
 /// Goes on with the client's call at this place, if there is one.

@@ -2,8 +2,8 @@
 ghost use Rattle.std.specs.Prelude.{◌≡◌, ◌≢◌, ◌<◌, ◌≤◌, ◌↔◌, length, false, true, Some, None, IfOk, OnOk, OnErr, IsTrue};
 ghost use Rattle.stx_model.specs.Meanings.{state_of, stop_of};
 ghost use Rattle.stx_model.specs.Flat.{IsFlat};
-ghost use Rattle.stx_model.specs.declared.call.Want.{Want as WantData};
-ghost use Rattle.stx_model.specs.declared.call.Reply.{Reply as ReplyData};
+ghost use Rattle.stx_base.specs.declared.call.Want.{Want as WantData};
+ghost use Rattle.stx_base.specs.declared.call.Reply.{Reply as ReplyData};
 ghost use Rattle.stx_client.specs.View.{at_start, script_of, call_want, is_reply, calling, fed, HasReadAll, StartsWith, IsScript};
 
 use crate::calls::call_at;
@@ -14,7 +14,7 @@ use crate::tokens::Tokens;
 use crate::turns::{hear_pool, hear_store};
 use std::alloc::Global;
 use std::marker::Model;
-use stx_model::{
+use stx_base::{
     Call, ClientLines, Line, PoolAnswer, PoolCall, PoolNote, Reply, StoreAnswer, StoreCall,
     StoreNote, Want,
 };

@@ -1,7 +1,7 @@
 // The end of a scope: what the rules decide, and the lines up to the store's call.
 ghost use Rattle.std.specs.Prelude.{◌≡◌, ◌≤◌, ◌<◌, length};
 ghost use Rattle.stx_model.specs.Meanings.{say};
-ghost use Rattle.stx_model.specs.Rules.{winner as winner_of, rolls_back};
+ghost use Rattle.stx_base.specs.Rules.{winner as winner_of, rolls_back};
 ghost use Rattle.stx_model.specs.Script.{throws};
 ghost use Rattle.stx_model.specs.Flat.{IsFlat};
 ghost use Rattle.stx_client.specs.Machine.{Comes, IsIn, IsMethod, attribute_of as attribute_in, ending, ends_with, is_known};
@@ -9,7 +9,7 @@ ghost use Rattle.stx_client.specs.Machine.{Comes, IsIn, IsMethod, attribute_of a
 use crate::calls::attribute_of;
 use crate::setup::Setup;
 use crate::stage::{Scope, Stage};
-use stx_model::{Ending, Line};
+use stx_base::{Ending, Line};
 use stx_rules::{Decision, decide};
 use stx_scenario::{ClassNo, MethodNo, Roomy};
 

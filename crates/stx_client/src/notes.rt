@@ -6,7 +6,7 @@ ghost use Rattle.stx_client.specs.View.{pool_note as note_of_pool, store_note as
 
 use crate::stage::Stage;
 use crate::tokens::Tokens;
-use stx_model::{Access, PoolAnswer, PoolNote, StoreAnswer, StoreNote};
+use stx_base::{Access, PoolAnswer, PoolNote, StoreAnswer, StoreNote};
 
 /// The note of the pool's answer to a stage's want.
 pub(crate) fn pool_note(stage: Stage, answer: PoolAnswer, tokens: &mut Tokens) -> PoolNote

@@ -1,8 +1,8 @@
 // What all clients of a scenario share.
 ghost use Rattle.std.specs.Prelude.{◌≡◌, ◌<◌, ◌^◌, IfOk, length, take};
 ghost use Rattle.stx_scenario.specs.BuiltIn.{built_in};
-ghost use Rattle.stx_model.specs.Attributes.{attributes as attributes_of};
-ghost use Rattle.stx_model.specs.Classes.{IsTree, parents_of};
+ghost use Rattle.stx_base.specs.Attributes.{attributes as attributes_of};
+ghost use Rattle.stx_base.specs.Classes.{IsTree, parents_of};
 
 use std::alloc::Global;
 use stx_attr::Attributes;

@@ -2,7 +2,7 @@
 ghost use Rattle.std.specs.Prelude.{◌≡◌};
 ghost use Rattle.stx_client.specs.Machine.{want_of as want_at};
 
-use stx_model::{Access, Ending, Want};
+use stx_base::{Access, Ending, Want};
 use stx_scenario::{ClassNo, MethodNo, RowNo};
 
 /// A fresh scope (Spring's new transaction status): its method, its connection and its transaction.

@@ -4,15 +4,15 @@ ghost use Rattle.std.specs.List.{list_all};
 ghost use Rattle.stx_model.specs.Flat.{IsFlat, IsFlatAttribute, is_flat};
 ghost use Rattle.stx_client.specs.Fixture.{AreClasses, HasFlatTx};
 ghost use Rattle.stx_model.specs.Meanings.{suits};
-ghost use Rattle.stx_model.specs.declared.call.Want.{Want as WantData};
-ghost use Rattle.stx_model.specs.declared.call.Reply.{Reply as ReplyData};
+ghost use Rattle.stx_base.specs.declared.call.Want.{Want as WantData};
+ghost use Rattle.stx_base.specs.declared.call.Reply.{Reply as ReplyData};
 ghost use Rattle.stx_client.specs.View.{call_want, pool_call_want, store_call_want, is_reply, is_reply_to};
 
 use crate::{Client, Setup};
 use std::alloc::Global;
 use std::test::Fail;
 use stx_classes::ClassTree;
-use stx_model::{
+use stx_base::{
     Access, Answer, Call, Connection, Ending, Kind, Line, PoolAnswer, PoolCall, Reply, Session,
     StoreAnswer, StoreCall, Want,
 };

@@ -2,7 +2,7 @@
 ghost use Rattle.std.specs.Prelude.{◌≡◌, Some, None};
 
 use std::mem;
-use stx_model::{Connection, Session};
+use stx_base::{Connection, Session};
 
 /// What a client holds. Dropping it retires both.
 pub(crate) struct Tokens {

@@ -10,7 +10,7 @@ use crate::body::{answered, goes_to};
 use crate::calls::leave;
 use crate::setup::Setup;
 use crate::stage::{At, Scope, Stage};
-use stx_model::{Kind, Line, PoolNote, StoreNote};
+use stx_base::{Kind, Line, PoolNote, StoreNote};
 use stx_scenario::{CANNOT_CREATE_TRANSACTION_EXCEPTION, Roomy, SyncMode};
 
 /// Goes on after a note of the pool that answers the stage's want.

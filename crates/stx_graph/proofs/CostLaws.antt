@@ -1,11 +1,11 @@
 -- Laws of costs that stop at the cap: sums of them are the sums, stopped at the cap.
 use Rattle.std.proofs.Common.{◌≡◌, ℕ, ◌+◌, ◌≤◌, Bool, true, false, cond, List, [], ◌∷◌, ◌++◌, map, min, length, take, sym, ◌∙◌, ap, arith, filter, fold}
 use Rattle.std.proofs.lemmas.List.{take_all}
-use Rattle.stx_model.specs.declared.cost.Cost.{Cost}
+use Rattle.stx_base.specs.declared.cost.Cost.{Cost}
 use Rattle.std.proofs.lemmas.List.{map-append}
 use Rattle.stx_scenario.specs.declared.numbers.MethodNo.{MethodNo}
 use Rattle.stx_scenario.specs.declared.scenario.Stmt.{Stmt}
-use Rattle.stx_model.specs.Weight.{nothing, plus, total, callback_cost, callbacks_cost}
+use Rattle.stx_base.specs.Weight.{nothing, plus, total, callback_cost, callbacks_cost}
 use Rattle.stx_graph.specs.Costs.{cap, capped, added}
 
 pub cost_same : (a b : Cost) → a.size ≡ b.size → a.registrations ≡ b.registrations → a ≡ b

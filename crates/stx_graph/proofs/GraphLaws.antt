@@ -8,10 +8,10 @@ use Rattle.std.proofs.lemmas.Option.{slice_get_past}
 use Rattle.std.proofs.Math.ListN.{get_or-eq_default}
 use Rattle.stx_scenario.specs.declared.numbers.MethodNo.{MethodNo}
 use Rattle.stx_scenario.specs.declared.scenario.Scenario.{Scenario}
-use Rattle.stx_model.specs.declared.cost.Cost.{Cost}
-use Rattle.stx_model.specs.Weight.{body_in, led, leads, has_method, Next, LeadsTo, Way, IsOnCycle, above, longest, rank, cost, cost_within, total, client_weight, weight_of, weight, MethodsInRange, InRange}
-use Rattle.stx_model.proofs.WayLaws.{has_itself, above_more, above_most, above_same, longest_settled, longest_more, shallow, IsAcyclic}
-use Rattle.stx_model.proofs.WeightLaws.{acyclic_from, cost_settled}
+use Rattle.stx_base.specs.declared.cost.Cost.{Cost}
+use Rattle.stx_base.specs.Weight.{body_in, led, leads, has_method, Next, LeadsTo, Way, IsOnCycle, above, longest, rank, cost, cost_within, total, client_weight, weight_of, weight, MethodsInRange, InRange}
+use Rattle.stx_base.proofs.WayLaws.{has_itself, above_more, above_most, above_same, longest_settled, longest_more, shallow, IsAcyclic}
+use Rattle.stx_base.proofs.WeightLaws.{acyclic_from, cost_settled}
 use Rattle.stx_graph.specs.Rows.{next_in, Same, MethodRows}
 use Rattle.stx_graph.specs.Ranks.{rank_at, AreLongest, IsFirst}
 use Rattle.stx_graph.specs.Cycles.{AreReached, NoneBelow}

@@ -4,9 +4,9 @@ use Rattle.std.specs.List.{All}
 use Rattle.std.proofs.lemmas.Bool.{or_cases, false≢true}
 use Rattle.std.proofs.lemmas.List.{get_or-map, get_or-replicate, length-map, length-replicate}
 use Rattle.std.proofs.lemmas.List.Elements.{All-head, All-tail, All-from_get_or}
-use Rattle.stx_model.proofs.WayLaws.{above_same, longest_within}
+use Rattle.stx_base.proofs.WayLaws.{above_same, longest_within}
 use Rattle.stx_scenario.specs.declared.numbers.MethodNo.{MethodNo}
-use Rattle.stx_model.specs.Weight.{above, longest, has_method, MethodsInRange}
+use Rattle.stx_base.specs.Weight.{above, longest, has_method, MethodsInRange}
 use Rattle.stx_graph.specs.Rows.{next_in, row_at, RowsInRange}
 use Rattle.stx_graph.specs.Ranks.{rank_at, raised, AreLongest}
 

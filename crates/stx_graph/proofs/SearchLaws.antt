@@ -4,8 +4,8 @@ use Rattle.std.proofs.lemmas.Bool.{or_cases, or_left, or_right, cases_lt}
 use Rattle.std.proofs.lemmas.List.{get_or_append_left, get_or_default, append-nil, append_assoc}
 use Rattle.std.proofs.lemmas.List.Folds.{Any-from_list_any, list_any_at}
 use Rattle.stx_scenario.specs.declared.numbers.MethodNo.{MethodNo}
-use Rattle.stx_model.specs.Weight.{has_method, Way}
-use Rattle.stx_model.proofs.WayLaws.{same_method, Leads, leads_once, leads_more}
+use Rattle.stx_base.specs.Weight.{has_method, Way}
+use Rattle.stx_base.proofs.WayLaws.{same_method, Leads, leads_once, leads_more}
 use Rattle.stx_graph.specs.Rows.{with_method, row_at, next_in}
 use Rattle.stx_graph.specs.Cycles.{AreReached}
 use Rattle.stx_graph.proofs.RowLaws.{joins_methods}

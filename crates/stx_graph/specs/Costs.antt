@@ -4,8 +4,8 @@ use Rattle.stx_scenario.specs.declared.numbers.MethodNo.{MethodNo}
 use Rattle.stx_scenario.specs.declared.numbers.EventNo.{EventNo}
 use Rattle.stx_scenario.specs.declared.scenario.Scenario.{Scenario}
 use Rattle.stx_scenario.specs.declared.scenario.Stmt.{Stmt}
-use Rattle.stx_model.specs.declared.cost.Cost.{Cost}
-use Rattle.stx_model.specs.Weight.{nothing, one, one_registered, plus, total, listeners_of, listener_cost, cost_within}
+use Rattle.stx_base.specs.declared.cost.Cost.{Cost}
+use Rattle.stx_base.specs.Weight.{nothing, one, one_registered, plus, total, listeners_of, listener_cost, cost_within}
 
 -- one more than the greatest weight that a scenario may have
 abbrev pub cap : ℕ

@@ -1,7 +1,7 @@
 -- What is reached from a method.
 use Rattle.std.specs.Prelude.{◌≡◌, ℕ, suc, ◌<◌, true, List}
 use Rattle.stx_scenario.specs.declared.numbers.MethodNo.{MethodNo}
-use Rattle.stx_model.specs.Weight.{Next, Way, IsOnCycle, has_method}
+use Rattle.stx_base.specs.Weight.{Next, Way, IsOnCycle, has_method}
 
 -- the list holds exactly the methods to which a way of one or more steps leads
 pub record AreReached (next : Next) (start : MethodNo) (order : List MethodNo) : Type 0 where

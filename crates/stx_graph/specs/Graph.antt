@@ -3,7 +3,7 @@ use Rattle.std.specs.Prelude.{◌≡◌, ℕ, ◌<◌, ◌≤◌, List, length, 
 use Rattle.std.specs.List.{range_with_len}
 use Rattle.stx_scenario.specs.declared.numbers.MethodNo.{MethodNo}
 use Rattle.stx_scenario.specs.declared.scenario.Scenario.{Scenario}
-use Rattle.stx_model.specs.Weight.{Next, leads, IsOnCycle, above, rank, body_of, body_cost, cost, weight}
+use Rattle.stx_base.specs.Weight.{Next, leads, IsOnCycle, above, rank, body_of, body_cost, cost, weight}
 use Rattle.stx_graph.specs.declared.graph.GraphFault.{GraphFault}
 use Rattle.stx_graph.specs.Ranks.{IsFirst}
 use Rattle.stx_graph.specs.Cycles.{NoneBelow}

@@ -1,7 +1,7 @@
 -- Ranks by rounds, and which methods come first.
 use Rattle.std.specs.Prelude.{◌≡◌, ℕ, ◌<◌, List, length, map, slice_index_or}
 use Rattle.stx_scenario.specs.declared.numbers.MethodNo.{MethodNo}
-use Rattle.stx_model.specs.Weight.{above, longest}
+use Rattle.stx_base.specs.Weight.{above, longest}
 use Rattle.stx_graph.specs.Rows.{next_in}
 
 -- the number that stands for a method in a list

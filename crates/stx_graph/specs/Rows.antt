@@ -6,7 +6,7 @@ use Rattle.stx_scenario.specs.declared.scenario.Scenario.{Scenario}
 use Rattle.stx_scenario.specs.declared.scenario.Listener.{Listener}
 use Rattle.stx_scenario.specs.declared.scenario.SyncDecl.{SyncDecl}
 use Rattle.stx_scenario.specs.declared.scenario.Stmt.{Stmt}
-use Rattle.stx_model.specs.Weight.{has_method, calls, callbacks_of, listeners_of, leads, MethodsInRange, Next}
+use Rattle.stx_base.specs.Weight.{has_method, calls, callbacks_of, listeners_of, leads, MethodsInRange, Next}
 
 -- the flags say which methods are in the list; each is in it once
 pub record IsMarked (has : List Bool) (order : List MethodNo) : Type 0 where

@@ -1,6 +1,6 @@
 // The call graph, and why a scenario has none.
 ghost use Rattle.std.specs.Prelude.{◌≡◌, ◌<◌, ◌^◌, length, slice_get, Some, IfOk, IfErr};
-ghost use Rattle.stx_model.specs.Weight.{InRange};
+ghost use Rattle.stx_base.specs.Weight.{InRange};
 ghost use Rattle.stx_graph.specs.Rows.{RowsInRange, next_in};
 ghost use Rattle.stx_graph.specs.Graph.{weighed, IsAccepted, IsDue, IsDepthFault};
 

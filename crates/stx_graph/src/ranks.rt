@@ -1,7 +1,7 @@
 // Ranks, by rounds: after each round they count the steps of the longest ways with one step more.
 ghost use Rattle.std.specs.Prelude.{◌≡◌, ◌+◌, ◌<◌, ◌≤◌, ◌^◌, length, map, IfOk, All, MatchOption, ℕ};
 ghost use Rattle.stx_scenario.specs.declared.numbers.MethodNo.{MethodNo};
-ghost use Rattle.stx_model.specs.Weight.{MethodsInRange};
+ghost use Rattle.stx_base.specs.Weight.{MethodsInRange};
 ghost use Rattle.stx_graph.specs.Rows.{RowsInRange};
 ghost use Rattle.stx_graph.specs.Ranks.{raised, rank_at, AreLongest, IsFirst};
 

@@ -1,6 +1,6 @@
 // Graphs of small scenarios and of great ones, and which of the refusals comes.
 ghost use Rattle.std.specs.Prelude.{◌<◌, ◌^◌, length, IsTrue, All, IfOk};
-ghost use Rattle.stx_model.specs.Weight.{CallbackInRange, CallbacksInRange, StatementInRange, BodyInRange, SyncInRange, MethodsInRange, InRange};
+ghost use Rattle.stx_base.specs.Weight.{CallbackInRange, CallbacksInRange, StatementInRange, BodyInRange, SyncInRange, MethodsInRange, InRange};
 
 use super::*;
 use std::alloc::Global;

@@ -2,13 +2,13 @@
 ghost use Rattle.std.specs.Prelude.{◌≡◌, ◌<◌, length, map, min, sum, IfOk};
 ghost use Rattle.std.specs.List.{range_with_len};
 ghost use Rattle.stx_scenario.specs.declared.numbers.EventNo.{EventNo};
-ghost use Rattle.stx_model.specs.Weight.{body_cost, callbacks_cost, callbacks, client_weight, weight_of, cost_within, InRange};
+ghost use Rattle.stx_base.specs.Weight.{body_cost, callbacks_cost, callbacks, client_weight, weight_of, cost_within, InRange};
 ghost use Rattle.stx_graph.specs.Costs.{AreCosts, cap, capped, cost_at, event_cost};
 
 use crate::costs::{CAP, NOTHING, calls_cost, event_cost, method_cost, sync_cost};
 use crate::ranks::ROUNDS;
 use std::alloc::Global;
-use stx_model::Cost;
+use stx_base::Cost;
 use stx_scenario::{NoMemory, Scenario};
 
 /// The weight of a scenario in which no method has a rank over the greatest; one that is too heavy has `CAP`.

@@ -1,11 +1,11 @@
 -- How many entries histories have whose scripts have read all of them: no more than scripts read.
 use Rattle.std.proofs.Common.{◌≡◌, ℕ, zero, suc, ◌+◌, ◌*◌, ◌≤◌, length, refl, ap, arith}
 use Rattle.stx_model.specs.Flat.{flat_weight}
-use Rattle.stx_model.specs.Histories.{pool_notes_of, store_notes_of, total}
+use Rattle.stx_base.specs.Histories.{pool_notes_of, store_notes_of, total}
 use Rattle.stx_model.specs.Laws.{EntriesWithin}
 use Rattle.stx_model.specs.Reads.{notes_read}
-use Rattle.stx_model.proofs.HistoryLaws.{length-made, total-same}
-use Rattle.stx_model.proofs.LegalLaws.{PoolLegal-clients, StoreLegal-clients}
+use Rattle.stx_base.proofs.HistoryLaws.{length-made, total-same}
+use Rattle.stx_base.proofs.LegalLaws.{PoolLegal-clients, StoreLegal-clients}
 use Rattle.stx_model.proofs.ReadsLaw.{reads_within}
 
 total_plus : (n : ℕ) (f g : ℕ → ℕ) → total n (λ i. f i + g i) ≡ total n f + total n g

@@ -2,20 +2,20 @@
 use Rattle.std.proofs.Common.{◌≡◌, ℕ, ℤ, ◌+◌, false, ◌==◌, List, [], ◌∷◌, ◌++◌, length, Some, fold, append-nil, refl, inl, inr, sym, ◌∙◌, subst, arith}
 use Rattle.std.specs.List.{IsDistinct, AllByRecursion}
 use Rattle.std.proofs.lemmas.Bool.{false≢true, cases_Bool, cases_eq}
-use Rattle.stx_model.specs.declared.history.PoolNote.{PoolNote}
-use Rattle.stx_model.specs.declared.history.PoolEntry.{PoolEntry}
-use Rattle.stx_model.specs.declared.history.StoreNote.{StoreNote}
-use Rattle.stx_model.specs.declared.history.StoreEntry.{StoreEntry}
-use Rattle.stx_model.specs.Histories.{pool_notes_of, store_notes, store_notes_of}
+use Rattle.stx_base.specs.declared.history.PoolNote.{PoolNote}
+use Rattle.stx_base.specs.declared.history.PoolEntry.{PoolEntry}
+use Rattle.stx_base.specs.declared.history.StoreNote.{StoreNote}
+use Rattle.stx_base.specs.declared.history.StoreEntry.{StoreEntry}
+use Rattle.stx_base.specs.Histories.{pool_notes_of, store_notes, store_notes_of}
 use Rattle.stx_model.specs.Laws.{OwnNotesFresh}
-use Rattle.stx_model.specs.Legal.{PoolFits, PoolLegal, StoreFits, StoreLegal}
-use Rattle.stx_model.specs.Pools.{contains, out_after, out}
+use Rattle.stx_base.specs.Legal.{PoolFits, PoolLegal, StoreFits, StoreLegal}
+use Rattle.stx_base.specs.Pools.{contains, out_after, out}
 use Rattle.stx_model.specs.Reads.{TakesFreshFrom, TakesFresh, BeginsFresh}
-use Rattle.stx_model.specs.Stores.{begun, store_reply, store_want}
-use Rattle.stx_model.proofs.HistoryLaws.{or_none, begun-push, none_of, pool_notes_of-push, pool_notes_of-push_other, store_notes_of-push, store_notes_of-push_other}
-use Rattle.stx_model.proofs.LegalLaws.{PoolLegal-along, PoolLegal-push, StoreLegal-along, StoreLegal-push}
-use Rattle.stx_model.proofs.PoolLaws.{fits_to_take, out_is_owned}
-use Rattle.stx_model.proofs.StoreLaws.{names, begun_none, begin_number, unnamed}
+use Rattle.stx_base.specs.Stores.{begun, store_reply, store_want}
+use Rattle.stx_base.proofs.HistoryLaws.{or_none, begun-push, none_of, pool_notes_of-push, pool_notes_of-push_other, store_notes_of-push, store_notes_of-push_other}
+use Rattle.stx_base.proofs.LegalLaws.{PoolLegal-along, PoolLegal-push, StoreLegal-along, StoreLegal-push}
+use Rattle.stx_base.proofs.PoolLaws.{fits_to_take, out_is_owned}
+use Rattle.stx_base.proofs.StoreLaws.{names, begun_none, begin_number, unnamed}
 
 -- ---- the pool
 

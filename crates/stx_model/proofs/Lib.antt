@@ -1,19 +1,11 @@
 pub mod WorkedRows
 pub mod Growth
 pub mod ReadsLaw
-pub mod WorkedWeights
-pub mod WayLaws
-pub mod WeightLaws
 pub mod ProperNotes
 pub mod ProperLaw
 pub mod FreshLaw
 pub mod EntriesLaw
 pub mod PlayedLaw
-pub mod JournalText
-pub mod HistoryLaws
-pub mod LegalLaws
-pub mod PoolLaws
-pub mod StoreLaws
 pub mod SerialAlone
 pub mod SerialLists
 pub mod SerialNames
@@ -23,5 +15,3 @@ pub mod SerialLaw
 pub mod SerialRows
 pub mod ReadsRows
 pub mod SerialCounterexample
-pub mod WorkedClasses
-mod WorkedRules

@@ -7,24 +7,24 @@ use Rattle.std.proofs.lemmas.List.Folds.{list_any-append}
 use Rattle.std.proofs.lemmas.List.FromFn.{length-map-range_with_len, get_or-map-range_with_len}
 use Rattle.std.proofs.lemmas.Option.{same_Some, slice_get-get_or, slice_get_within}
 use Rattle.stx_scenario.specs.declared.scenario.Scenario.{Scenario}
-use Rattle.stx_model.specs.declared.call.Want.{Want}
-use Rattle.stx_model.specs.declared.history.PoolNote.{PoolNote}
-use Rattle.stx_model.specs.declared.history.PoolEntry.{PoolEntry}
-use Rattle.stx_model.specs.declared.history.StoreNote.{StoreNote}
-use Rattle.stx_model.specs.declared.history.StoreEntry.{StoreEntry}
-use Rattle.stx_model.specs.declared.line.Line.{Line}
+use Rattle.stx_base.specs.declared.call.Want.{Want}
+use Rattle.stx_base.specs.declared.history.PoolNote.{PoolNote}
+use Rattle.stx_base.specs.declared.history.PoolEntry.{PoolEntry}
+use Rattle.stx_base.specs.declared.history.StoreNote.{StoreNote}
+use Rattle.stx_base.specs.declared.history.StoreEntry.{StoreEntry}
+use Rattle.stx_base.specs.declared.line.Line.{Line}
 use Rattle.stx_model.specs.Faithful.{IsBalanced, IsBack, Faithful, connection_bracket}
-use Rattle.stx_model.specs.Histories.{pool_notes, store_notes, pool_notes_of, store_notes_of}
-use Rattle.stx_model.specs.Legal.{PoolFits, PoolLegal, StoreFits, StoreLegal}
+use Rattle.stx_base.specs.Histories.{pool_notes, store_notes, pool_notes_of, store_notes_of}
+use Rattle.stx_base.specs.Legal.{PoolFits, PoolLegal, StoreFits, StoreLegal}
 use Rattle.stx_model.specs.Meanings.{Result, Over, Stops, Breaks, state_of, stop_of}
 use Rattle.stx_model.specs.Played.{Turns, script_so_far, want_so_far, lines_so_far, outcome_of}
-use Rattle.stx_model.specs.Pools.{contains, out_after, out}
+use Rattle.stx_base.specs.Pools.{contains, out_after, out}
 use Rattle.stx_model.specs.Reads.{ReadsAll}
-use Rattle.stx_model.specs.Stores.{begun, ends, live, is_live}
+use Rattle.stx_base.specs.Stores.{begun, ends, live, is_live}
 use Rattle.stx_model.proofs.FreshLaw.{own_notes_fresh}
-use Rattle.stx_model.proofs.HistoryLaws.{begun-push, is_live-parts, none_of, store_notes-push, store_notes_of-push, store_notes_of-push_other, pool_notes_of-push_other}
-use Rattle.stx_model.proofs.LegalLaws.{PoolLegal-along, StoreLegal-along}
-use Rattle.stx_model.proofs.PoolLaws.{out-push, own_out-push, contains-without_other, without-left}
+use Rattle.stx_base.proofs.HistoryLaws.{begun-push, is_live-parts, none_of, store_notes-push, store_notes_of-push, store_notes_of-push_other, pool_notes_of-push_other}
+use Rattle.stx_base.proofs.LegalLaws.{PoolLegal-along, StoreLegal-along}
+use Rattle.stx_base.proofs.PoolLaws.{out-push, own_out-push, contains-without_other, without-left}
 use Rattle.stx_model.proofs.ProperLaw.{balanced, gives_all_back}
 use Rattle.stx_model.proofs.ProperNotes.{none_live}
 use Rattle.stx_model.proofs.SerialLaw.{journal_serial}

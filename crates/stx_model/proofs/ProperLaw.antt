@@ -15,25 +15,25 @@ use Rattle.stx_scenario.specs.declared.scenario.Scenario.{Scenario}
 use Rattle.stx_scenario.specs.declared.scenario.Stmt.{Stmt}
 use Rattle.stx_scenario.specs.declared.scenario.Propagation.{Propagation}
 use Rattle.stx_scenario.specs.declared.scenario.TxAttr.{TxAttr}
-use Rattle.stx_model.specs.declared.call.Want.{Want}
-use Rattle.stx_model.specs.declared.history.Access.{Access}
-use Rattle.stx_model.specs.declared.history.Answer.{Answer}
-use Rattle.stx_model.specs.declared.history.PoolNote.{PoolNote}
-use Rattle.stx_model.specs.declared.history.StoreNote.{StoreNote}
-use Rattle.stx_model.specs.declared.line.Line.{Line}
-use Rattle.stx_model.specs.declared.manager.Kind.{Kind}
-use Rattle.stx_model.specs.declared.manager.Ending.{Ending}
-use Rattle.stx_model.specs.Attributes.{attribute}
+use Rattle.stx_base.specs.declared.call.Want.{Want}
+use Rattle.stx_base.specs.declared.history.Access.{Access}
+use Rattle.stx_base.specs.declared.history.Answer.{Answer}
+use Rattle.stx_base.specs.declared.history.PoolNote.{PoolNote}
+use Rattle.stx_base.specs.declared.history.StoreNote.{StoreNote}
+use Rattle.stx_base.specs.declared.line.Line.{Line}
+use Rattle.stx_base.specs.declared.manager.Kind.{Kind}
+use Rattle.stx_base.specs.declared.manager.Ending.{Ending}
+use Rattle.stx_base.specs.Attributes.{attribute}
 use Rattle.stx_model.specs.Contexts.{Context, Live, bare}
 use Rattle.stx_model.specs.Faithful.{Bracket, Neither, open_after, connection_bracket, transaction_bracket}
 use Rattle.stx_model.specs.Meanings.{State, Result, Over, Stops, Breaks, state_of, at_first, Meaning, Note, FromPool, FromStore, and_then, finally, say, with_context, unread, hear, answered, pool_answers, store_answers, pool_line, store_line, ask, on_take, on_begin, on_access}
-use Rattle.stx_model.specs.Pools.{contains, out_after, out, pool_proper}
+use Rattle.stx_base.specs.Pools.{contains, out_after, out, pool_proper}
 use Rattle.stx_model.specs.Laws.{ReadsInOrder, WantsProper, Balanced, GivesAllBack}
-use Rattle.stx_model.specs.Histories.{has_room}
+use Rattle.stx_base.specs.Histories.{has_room}
 use Rattle.stx_model.specs.Flat.{calls_weight, flat_weight}
 use Rattle.stx_model.specs.Reads.{IsEndOf, BeginsFresh, IsProperAfter, count_unread, notes_read}
-use Rattle.stx_model.specs.Stores.{begun, live, is_live, savepoints, is_pointed, store_proper}
-use Rattle.stx_model.specs.Weight.{body_of}
+use Rattle.stx_base.specs.Stores.{begun, live, is_live, savepoints, is_pointed, store_proper}
+use Rattle.stx_base.specs.Weight.{body_of}
 use Rattle.stx_model.specs.Script.{throws, unless_busy, access_row, nothing_more, value_of, is_value, needed, added, statement_in, statement_with, statement, body, leaves, gives_back, ending_call, completes, ending_after, ruled, ends, owns_fresh, fresh_context, opened, begins, fresh, opening_of, intercepted, invoke, tops, calls_of, script}
 use Rattle.stx_model.proofs.ProperNotes.{Stands, stands_none, stands_begin, stands_access, stands_commit, stands_rollback, fresh_begin, none_live}
 use Rattle.stx_model.proofs.ReadsLaw.{script_reads}

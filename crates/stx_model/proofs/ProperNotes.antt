@@ -4,13 +4,13 @@ use Rattle.std.specs.List.{list_any, IsDistinct, AllByRecursion}
 use Rattle.std.proofs.lemmas.Bool.{false≢true, or_left}
 use Rattle.std.proofs.lemmas.List.Elements.{filter_map-append}
 use Rattle.std.proofs.lemmas.List.Folds.{list_any-append}
-use Rattle.stx_model.specs.declared.history.Access.{Access}
-use Rattle.stx_model.specs.declared.history.Answer.{Answer}
-use Rattle.stx_model.specs.declared.history.StoreNote.{StoreNote}
-use Rattle.stx_model.specs.Pools.{contains}
+use Rattle.stx_base.specs.declared.history.Access.{Access}
+use Rattle.stx_base.specs.declared.history.Answer.{Answer}
+use Rattle.stx_base.specs.declared.history.StoreNote.{StoreNote}
+use Rattle.stx_base.specs.Pools.{contains}
 use Rattle.stx_model.specs.Reads.{BeginsFresh}
-use Rattle.stx_model.specs.Stores.{begun, begun_by, ends, is_live, pointed, savepoints}
-use Rattle.stx_model.proofs.HistoryLaws.{or-false, or_none, list_any-push, begun-push, is_live-parts, is_live-push, savepoints-push}
+use Rattle.stx_base.specs.Stores.{begun, begun_by, ends, is_live, pointed, savepoints}
+use Rattle.stx_base.proofs.HistoryLaws.{or-false, or_none, list_any-push, begun-push, is_live-parts, is_live-push, savepoints-push}
 
 -- just these transactions live, each end is of a transaction that was begun, and no savepoint is open
 pub record Stands (notes : List StoreNote) (lives : List ℕ) : Type 0 where

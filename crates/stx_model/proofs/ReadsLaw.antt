@@ -12,22 +12,22 @@ use Rattle.stx_scenario.specs.declared.scenario.Scenario.{Scenario}
 use Rattle.stx_scenario.specs.declared.scenario.Stmt.{Stmt}
 use Rattle.stx_scenario.specs.declared.scenario.Propagation.{Propagation}
 use Rattle.stx_scenario.specs.declared.scenario.TxAttr.{TxAttr}
-use Rattle.stx_model.specs.declared.call.Want.{Want}
-use Rattle.stx_model.specs.declared.history.Access.{Access}
-use Rattle.stx_model.specs.declared.history.Answer.{Answer}
-use Rattle.stx_model.specs.declared.history.PoolNote.{PoolNote}
-use Rattle.stx_model.specs.declared.history.StoreNote.{StoreNote}
-use Rattle.stx_model.specs.declared.line.Line.{Line}
-use Rattle.stx_model.specs.declared.manager.Kind.{Kind}
-use Rattle.stx_model.specs.declared.manager.Ending.{Ending}
-use Rattle.stx_model.specs.Attributes.{attribute}
+use Rattle.stx_base.specs.declared.call.Want.{Want}
+use Rattle.stx_base.specs.declared.history.Access.{Access}
+use Rattle.stx_base.specs.declared.history.Answer.{Answer}
+use Rattle.stx_base.specs.declared.history.PoolNote.{PoolNote}
+use Rattle.stx_base.specs.declared.history.StoreNote.{StoreNote}
+use Rattle.stx_base.specs.declared.line.Line.{Line}
+use Rattle.stx_base.specs.declared.manager.Kind.{Kind}
+use Rattle.stx_base.specs.declared.manager.Ending.{Ending}
+use Rattle.stx_base.specs.Attributes.{attribute}
 use Rattle.stx_model.specs.Contexts.{Live, bare}
 use Rattle.stx_model.specs.Flat.{call_weight, calls_weight, flat_weight}
-use Rattle.stx_model.specs.Histories.{total}
+use Rattle.stx_base.specs.Histories.{total}
 use Rattle.stx_model.specs.Laws.{ReadsWithin}
 use Rattle.stx_model.specs.Meanings.{State, Result, Over, Stops, Breaks, state_of, at_first, Meaning, Note, FromPool, FromStore, and_then, finally, say, with_context, unread, hear, answered, is_answer, ask, on_take, on_begin, on_access}
 use Rattle.stx_model.specs.Reads.{count_unread, notes_read}
-use Rattle.stx_model.specs.Weight.{body_of}
+use Rattle.stx_base.specs.Weight.{body_of}
 use Rattle.stx_model.specs.Script.{throws, unless_busy, access_row, nothing_more, value_of, is_value, needed, added, statement_in, statement_with, statement, body, leaves, gives_back, ending_call, completes, ending_after, ruled, ends, owns_fresh, fresh_context, opened, begins, fresh, opening_of, intercepted, invoke, tops, calls_of, script}
 
 -- it reads at most so many notes

@@ -4,19 +4,19 @@ use Rattle.std.proofs.Common.{◌≡◌, pos, true, false, List, [], ◌∷◌, 
 use Rattle.std.specs.List.{IsDistinct}
 use Rattle.std.proofs.lemmas.Bool.{false≢true}
 use Rattle.stx_scenario.specs.declared.scenario.Scenario.{Scenario}
-use Rattle.stx_model.specs.declared.call.Want.{Want}
-use Rattle.stx_model.specs.declared.history.Access.{Access}
-use Rattle.stx_model.specs.declared.history.Answer.{Answer}
-use Rattle.stx_model.specs.declared.history.PoolNote.{PoolNote}
-use Rattle.stx_model.specs.declared.history.StoreNote.{StoreNote}
-use Rattle.stx_model.specs.declared.line.Line.{Line}
+use Rattle.stx_base.specs.declared.call.Want.{Want}
+use Rattle.stx_base.specs.declared.history.Access.{Access}
+use Rattle.stx_base.specs.declared.history.Answer.{Answer}
+use Rattle.stx_base.specs.declared.history.PoolNote.{PoolNote}
+use Rattle.stx_base.specs.declared.history.StoreNote.{StoreNote}
+use Rattle.stx_base.specs.declared.line.Line.{Line}
 use Rattle.stx_model.specs.Faithful.{IsBalanced, connection_bracket, transaction_bracket}
 use Rattle.stx_model.specs.Flat.{flat_weight}
 use Rattle.stx_model.specs.Meanings.{state_of, stop_of, ask}
-use Rattle.stx_model.specs.Pools.{pool_proper}
+use Rattle.stx_base.specs.Pools.{pool_proper}
 use Rattle.stx_model.specs.Reads.{notes_read, TakesFresh, BeginsFresh}
 use Rattle.stx_model.specs.Script.{script, tops, invoke, fresh, begins, opened, completes, gives_back, body, statement}
-use Rattle.stx_model.specs.Stores.{store_proper}
+use Rattle.stx_base.specs.Stores.{store_proper}
 use Rattle.stx_model.proofs.ProperLaw.{wants_proper}
 use Rattle.stx_model.proofs.WorkedRows.{k, bm, one_method, one_trace}
 

@@ -8,10 +8,10 @@ use Rattle.std.specs.FinMap.{get-insert, get-remove}
 use Rattle.std.proofs.lemmas.Bool.{or_parts, or_left, or_right, cond-false}
 use Rattle.std.proofs.lemmas.Cmp.{nat_cmp_total}
 use Rattle.std.proofs.lemmas.List.Elements.{filter_map-append}
-use Rattle.stx_model.specs.declared.history.Access.{Access}
-use Rattle.stx_model.specs.declared.history.Answer.{Answer}
-use Rattle.stx_model.specs.declared.history.StoreNote.{StoreNote}
-use Rattle.stx_model.specs.Alone.{RowMap, Alone, row_of, applied, found_or_absent, at_start, last_copy, without_last, stepped, after, finding, findings, found_alone, answer_of, answers}
+use Rattle.stx_base.specs.declared.history.Access.{Access}
+use Rattle.stx_base.specs.declared.history.Answer.{Answer}
+use Rattle.stx_base.specs.declared.history.StoreNote.{StoreNote}
+use Rattle.stx_base.specs.Alone.{RowMap, Alone, row_of, applied, found_or_absent, at_start, last_copy, without_last, stepped, after, finding, findings, found_alone, answer_of, answers}
 
 -- ---- the rows of a note
 

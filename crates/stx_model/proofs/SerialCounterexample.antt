@@ -4,17 +4,17 @@ use Rattle.std.specs.Bool.{⊤}
 use Rattle.std.specs.List.{fold}
 use Rattle.std.specs.FinMap.{get-insert}
 use Rattle.std.proofs.lemmas.Cmp.{nat_cmp_total}
-use Rattle.stx_model.specs.declared.call.Want.{Want}
-use Rattle.stx_model.specs.declared.history.Access.{Access}
-use Rattle.stx_model.specs.declared.history.Answer.{Answer}
-use Rattle.stx_model.specs.declared.history.StoreNote.{StoreNote}
-use Rattle.stx_model.specs.declared.history.StoreEntry.{StoreEntry}
-use Rattle.stx_model.specs.Alone.{RowMap, row_of, finds, after, found_alone, answers}
-use Rattle.stx_model.specs.Histories.{store_notes, store_notes_of}
-use Rattle.stx_model.specs.Pools.{contains}
-use Rattle.stx_model.specs.Stores.{live, is_busy, is_caller, least, busy_or, work, committed_rows, store_reply, store_want, store_proper}
-use Rattle.stx_model.specs.Legal.{StoreLegal}
-use Rattle.stx_model.specs.Serial.{Serial}
+use Rattle.stx_base.specs.declared.call.Want.{Want}
+use Rattle.stx_base.specs.declared.history.Access.{Access}
+use Rattle.stx_base.specs.declared.history.Answer.{Answer}
+use Rattle.stx_base.specs.declared.history.StoreNote.{StoreNote}
+use Rattle.stx_base.specs.declared.history.StoreEntry.{StoreEntry}
+use Rattle.stx_base.specs.Alone.{RowMap, row_of, finds, after, found_alone, answers}
+use Rattle.stx_base.specs.Histories.{store_notes, store_notes_of}
+use Rattle.stx_base.specs.Pools.{contains}
+use Rattle.stx_base.specs.Stores.{live, is_busy, is_caller, least, busy_or, work, committed_rows, store_reply, store_want, store_proper}
+use Rattle.stx_base.specs.Legal.{StoreLegal}
+use Rattle.stx_base.specs.Serial.{Serial}
 use Rattle.stx_model.proofs.SerialLaw.{journal_serial}
 use Rattle.stx_model.proofs.WorkedRows.{by, k}
 

@@ -5,12 +5,12 @@ use Rattle.std.specs.List.{list_any, cons_option}
 use Rattle.std.proofs.lemmas.Bool.{or_left, or_parts, and_parts, not-true, both_ways, false_from_ne_true}
 use Rattle.std.proofs.lemmas.List.Elements.{filter_map-append}
 use Rattle.std.proofs.lemmas.List.Sums.{fold-append}
-use Rattle.stx_model.specs.declared.history.StoreNote.{StoreNote}
-use Rattle.stx_model.specs.declared.history.StoreEntry.{StoreEntry}
-use Rattle.stx_model.specs.Alone.{RowMap, first_rows, after}
-use Rattle.stx_model.specs.Histories.{store_notes}
-use Rattle.stx_model.specs.Stores.{ends, works, Transaction, committed_note, committed_by, journal, after_all, committed_rows}
-use Rattle.stx_model.specs.Serial.{Serial}
+use Rattle.stx_base.specs.declared.history.StoreNote.{StoreNote}
+use Rattle.stx_base.specs.declared.history.StoreEntry.{StoreEntry}
+use Rattle.stx_base.specs.Alone.{RowMap, first_rows, after}
+use Rattle.stx_base.specs.Histories.{store_notes}
+use Rattle.stx_base.specs.Stores.{ends, works, Transaction, committed_note, committed_by, journal, after_all, committed_rows}
+use Rattle.stx_base.specs.Serial.{Serial}
 use Rattle.stx_model.proofs.SerialAlone.{FindsAnswers}
 use Rattle.stx_model.proofs.SerialNames.{Sound, live-is, notes_with, notes_push}
 use Rattle.stx_model.proofs.SerialLocks.{work_same}

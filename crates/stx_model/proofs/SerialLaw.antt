@@ -3,14 +3,14 @@ use Rattle.std.proofs.Common.{◌≡◌, ℕ, ℤ, Bool, true, false, List, [], 
 use Rattle.std.specs.Bool.{⊤}
 use Rattle.std.specs.List.{list_any, cons_option, fold}
 use Rattle.std.proofs.lemmas.Bool.{and_parts, not-true, both_ways, false≢true, false_from_ne_true}
-use Rattle.stx_model.specs.declared.history.Access.{Access}
-use Rattle.stx_model.specs.declared.history.Answer.{Answer}
-use Rattle.stx_model.specs.declared.history.StoreNote.{StoreNote}
-use Rattle.stx_model.specs.declared.history.StoreEntry.{StoreEntry}
-use Rattle.stx_model.specs.Alone.{first_rows, row_of, at_start, stepped, finds, finding, found_alone, answer_of}
-use Rattle.stx_model.specs.Histories.{store_notes}
-use Rattle.stx_model.specs.Stores.{is_live, is_busy, conflicts, works, work, Transaction, committed_note, journal, after_all, committed_rows, store_reply, store_want}
-use Rattle.stx_model.specs.Legal.{StoreFits, StoreLegalFrom, StoreLegal}
+use Rattle.stx_base.specs.declared.history.Access.{Access}
+use Rattle.stx_base.specs.declared.history.Answer.{Answer}
+use Rattle.stx_base.specs.declared.history.StoreNote.{StoreNote}
+use Rattle.stx_base.specs.declared.history.StoreEntry.{StoreEntry}
+use Rattle.stx_base.specs.Alone.{first_rows, row_of, at_start, stepped, finds, finding, found_alone, answer_of}
+use Rattle.stx_base.specs.Histories.{store_notes}
+use Rattle.stx_base.specs.Stores.{is_live, is_busy, conflicts, works, work, Transaction, committed_note, journal, after_all, committed_rows, store_reply, store_want}
+use Rattle.stx_base.specs.Legal.{StoreFits, StoreLegalFrom, StoreLegal}
 use Rattle.stx_model.specs.Laws.{JournalIsSerial}
 use Rattle.stx_model.proofs.SerialAlone.{FindsAnswers, reaches, writes, unmoved, alone_push}
 use Rattle.stx_model.proofs.SerialNames.{begins, Names, NamesFit, Sound, names_fit, names_push, notes_with, notes_push, no_names, sound}

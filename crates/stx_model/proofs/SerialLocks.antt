@@ -3,14 +3,14 @@ use Rattle.std.proofs.Common.{◌≡◌, ℕ, ℤ, Bool, true, false, not, ◌&&
 use Rattle.std.specs.List.{list_any}
 use Rattle.std.proofs.lemmas.Bool.{or_cases, or_parts, and_parts, and_from, not-true, not_from_false, false≢true, true≢false}
 use Rattle.std.proofs.lemmas.List.Elements.{filter-append}
-use Rattle.stx_model.specs.declared.history.Access.{Access}
-use Rattle.stx_model.specs.declared.history.Answer.{Answer}
-use Rattle.stx_model.specs.declared.history.StoreNote.{StoreNote}
-use Rattle.stx_model.specs.declared.history.StoreEntry.{StoreEntry}
-use Rattle.stx_model.specs.Alone.{row_of}
-use Rattle.stx_model.specs.Histories.{store_notes}
-use Rattle.stx_model.specs.Pools.{contains}
-use Rattle.stx_model.specs.Stores.{ends, live, is_live, is_busy, takes, holders, is_caller, conflicts, least, works, work, busy_or, access_answer, auto_answer, store_reply, store_want}
+use Rattle.stx_base.specs.declared.history.Access.{Access}
+use Rattle.stx_base.specs.declared.history.Answer.{Answer}
+use Rattle.stx_base.specs.declared.history.StoreNote.{StoreNote}
+use Rattle.stx_base.specs.declared.history.StoreEntry.{StoreEntry}
+use Rattle.stx_base.specs.Alone.{row_of}
+use Rattle.stx_base.specs.Histories.{store_notes}
+use Rattle.stx_base.specs.Pools.{contains}
+use Rattle.stx_base.specs.Stores.{ends, live, is_live, is_busy, takes, holders, is_caller, conflicts, least, works, work, busy_or, access_answer, auto_answer, store_reply, store_want}
 use Rattle.stx_model.proofs.SerialLists.{any-filter, any-same, any_push, any_since, contains-filter}
 use Rattle.stx_model.proofs.SerialAlone.{reaches, writes, reaches-since_writes}
 use Rattle.stx_model.proofs.SerialNames.{begins, names, Sound, live-is}

@@ -4,12 +4,12 @@ use Rattle.std.specs.List.{list_any}
 use Rattle.std.proofs.lemmas.Bool.{or_cases, or_left, or_right, and_parts, and_from, not-true, not_from_false, both_ways, false≢true, true≢false, false_from_ne_true}
 use Rattle.std.proofs.lemmas.List.{map_push}
 use Rattle.std.proofs.lemmas.List.Elements.{filter_map-append}
-use Rattle.stx_model.specs.declared.history.StoreNote.{StoreNote}
-use Rattle.stx_model.specs.declared.history.StoreEntry.{StoreEntry}
-use Rattle.stx_model.specs.Histories.{store_notes, store_notes_of}
-use Rattle.stx_model.specs.Pools.{contains}
-use Rattle.stx_model.specs.Stores.{begun_by, begun, ends, is_live, works, store_reply, store_want, store_proper}
-use Rattle.stx_model.specs.Legal.{StoreFits}
+use Rattle.stx_base.specs.declared.history.StoreNote.{StoreNote}
+use Rattle.stx_base.specs.declared.history.StoreEntry.{StoreEntry}
+use Rattle.stx_base.specs.Histories.{store_notes, store_notes_of}
+use Rattle.stx_base.specs.Pools.{contains}
+use Rattle.stx_base.specs.Stores.{begun_by, begun, ends, is_live, works, store_reply, store_want, store_proper}
+use Rattle.stx_base.specs.Legal.{StoreFits}
 use Rattle.stx_model.proofs.SerialLists.{any-filter, any-map, any_push, any_since, contains-filter}
 
 -- ---- the clients' notes together are the history's

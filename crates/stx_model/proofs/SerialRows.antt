@@ -4,14 +4,14 @@ use Rattle.std.proofs.lemmas.Cmp.{nat_cmp_total}
 use Rattle.std.specs.Ordering.{nat_cmp}
 use Rattle.std.specs.FinMap.{get-insert, get-empty}
 use Rattle.stx_scenario.specs.declared.numbers.RowNo.{RowNo}
-use Rattle.stx_model.specs.declared.history.Access.{Access}
-use Rattle.stx_model.specs.declared.history.Answer.{Answer}
-use Rattle.stx_model.specs.declared.history.StoreNote.{StoreNote}
-use Rattle.stx_model.specs.declared.history.StoreEntry.{StoreEntry}
-use Rattle.stx_model.specs.Alone.{first_rows, found_alone, answers}
-use Rattle.stx_model.specs.Stores.{Transaction, journal, store_reply, store_proper}
-use Rattle.stx_model.specs.Legal.{StoreLegal}
-use Rattle.stx_model.specs.Serial.{Serial}
+use Rattle.stx_base.specs.declared.history.Access.{Access}
+use Rattle.stx_base.specs.declared.history.Answer.{Answer}
+use Rattle.stx_base.specs.declared.history.StoreNote.{StoreNote}
+use Rattle.stx_base.specs.declared.history.StoreEntry.{StoreEntry}
+use Rattle.stx_base.specs.Alone.{first_rows, found_alone, answers}
+use Rattle.stx_base.specs.Stores.{Transaction, journal, store_reply, store_proper}
+use Rattle.stx_base.specs.Legal.{StoreLegal}
+use Rattle.stx_base.specs.Serial.{Serial}
 use Rattle.stx_model.proofs.SerialLaw.{journal_serial}
 use Rattle.stx_model.proofs.WorkedRows.{by, k, kept_locks}
 

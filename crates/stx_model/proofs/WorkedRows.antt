@@ -16,28 +16,28 @@ use Rattle.stx_scenario.specs.declared.scenario.Propagation.{Propagation}
 use Rattle.stx_scenario.specs.declared.scenario.Stmt.{Stmt}
 use Rattle.stx_scenario.specs.BuiltIn.{built_in}
 use Rattle.stx_scenario.specs.declared.classes.TheConstants.{CANNOT_ACQUIRE_LOCK_EXCEPTION}
-use Rattle.stx_model.specs.declared.call.Want.{Want}
-use Rattle.stx_model.specs.declared.history.Access.{Access}
-use Rattle.stx_model.specs.declared.history.Answer.{Answer}
-use Rattle.stx_model.specs.declared.history.PoolNote.{PoolNote}
-use Rattle.stx_model.specs.declared.history.PoolEntry.{PoolEntry}
-use Rattle.stx_model.specs.declared.history.StoreNote.{StoreNote}
-use Rattle.stx_model.specs.declared.history.StoreEntry.{StoreEntry}
-use Rattle.stx_model.specs.declared.line.Line.{Line}
-use Rattle.stx_model.specs.declared.manager.Kind.{Kind}
-use Rattle.stx_model.specs.declared.manager.Ending.{Ending}
-use Rattle.stx_model.specs.declared.outcome.Outcome.{Outcome}
-use Rattle.stx_model.specs.Pools.{pool_reply, pool_proper}
-use Rattle.stx_model.specs.Alone.{RowMap, first_rows, after, net}
-use Rattle.stx_model.specs.Stores.{committed_rows, store_reply, store_proper}
-use Rattle.stx_model.specs.Legal.{PoolLegal, StoreLegal}
+use Rattle.stx_base.specs.declared.call.Want.{Want}
+use Rattle.stx_base.specs.declared.history.Access.{Access}
+use Rattle.stx_base.specs.declared.history.Answer.{Answer}
+use Rattle.stx_base.specs.declared.history.PoolNote.{PoolNote}
+use Rattle.stx_base.specs.declared.history.PoolEntry.{PoolEntry}
+use Rattle.stx_base.specs.declared.history.StoreNote.{StoreNote}
+use Rattle.stx_base.specs.declared.history.StoreEntry.{StoreEntry}
+use Rattle.stx_base.specs.declared.line.Line.{Line}
+use Rattle.stx_base.specs.declared.manager.Kind.{Kind}
+use Rattle.stx_base.specs.declared.manager.Ending.{Ending}
+use Rattle.stx_base.specs.declared.outcome.Outcome.{Outcome}
+use Rattle.stx_base.specs.Pools.{pool_reply, pool_proper}
+use Rattle.stx_base.specs.Alone.{RowMap, first_rows, after, net}
+use Rattle.stx_base.specs.Stores.{committed_rows, store_reply, store_proper}
+use Rattle.stx_base.specs.Legal.{PoolLegal, StoreLegal}
 use Rattle.stx_model.specs.Meanings.{Stops, state_of, stop_of, ask}
 use Rattle.stx_model.specs.Contexts.{bare}
-use Rattle.stx_model.specs.Rules.{winner, rolls_back}
+use Rattle.stx_base.specs.Rules.{winner, rolls_back}
 use Rattle.stx_model.specs.Script.{script, tops, invoke, fresh, begins, opened, completes, gives_back, body, statement}
 use Rattle.stx_model.specs.Faithful.{Faithful, IsPlayedOut, IsBalanced, connection_bracket}
-use Rattle.stx_model.specs.Lines.{line_words}
-use Rattle.stx_model.specs.Report.{printed, clients_text, lines_text, journal_text}
+use Rattle.stx_base.specs.Lines.{line_words}
+use Rattle.stx_base.specs.Report.{printed, clients_text, lines_text, journal_text}
 use Rattle.stx_model.proofs.SerialLaw.{journal_serial}
 
 abbrev pub by : ℕ → StoreNote → StoreEntry

@@ -1,6 +1,6 @@
 -- What a client carries from call to call. (Spring: TransactionSynchronizationManager.)
 use Rattle.std.specs.Prelude.{ℕ, ℤ, Bool, List, Option, None}
-use Rattle.stx_model.specs.declared.line.Label.{Label}
+use Rattle.stx_base.specs.declared.line.Label.{Label}
 
 -- a bound connection with its transaction; `mark` is the global rollback-only mark. It stays until the connection
 -- is given back, also in the rounds that follow the store's commit or rollback

@@ -2,14 +2,14 @@
 use Rattle.std.specs.Prelude.{◌≡◌, ℕ, ◌<◌, ◌==◌, if◌then◌else◌, List, [], ◌∷◌, map, length, Option, Some, None, slice_get}
 use Rattle.std.specs.List.{fold}
 use Rattle.stx_scenario.specs.declared.scenario.Scenario.{Scenario}
-use Rattle.stx_model.specs.declared.call.Want.{Want}
-use Rattle.stx_model.specs.declared.line.Line.{Line}
-use Rattle.stx_model.specs.declared.outcome.Outcome.{Outcome}
-use Rattle.stx_model.specs.Histories.{pool_notes, store_notes, pool_notes_of, store_notes_of}
-use Rattle.stx_model.specs.Pools.{out}
-use Rattle.stx_model.specs.Stores.{live}
-use Rattle.stx_model.specs.Legal.{PoolLegal, StoreLegal}
-use Rattle.stx_model.specs.Serial.{Serial}
+use Rattle.stx_base.specs.declared.call.Want.{Want}
+use Rattle.stx_base.specs.declared.line.Line.{Line}
+use Rattle.stx_base.specs.declared.outcome.Outcome.{Outcome}
+use Rattle.stx_base.specs.Histories.{pool_notes, store_notes, pool_notes_of, store_notes_of}
+use Rattle.stx_base.specs.Pools.{out}
+use Rattle.stx_base.specs.Stores.{live}
+use Rattle.stx_base.specs.Legal.{PoolLegal, StoreLegal}
+use Rattle.stx_base.specs.Serial.{Serial}
 use Rattle.stx_model.specs.Meanings.{Result, state_of, stop_of}
 use Rattle.stx_model.specs.Script.{script}
 

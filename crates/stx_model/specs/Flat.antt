@@ -9,9 +9,9 @@ use Rattle.stx_scenario.specs.declared.scenario.Stmt.{Stmt}
 use Rattle.stx_scenario.specs.declared.scenario.Propagation.{Propagation}
 use Rattle.stx_scenario.specs.declared.scenario.TxAttr.{TxAttr}
 use Rattle.stx_scenario.specs.BuiltIn.{built_in}
-use Rattle.stx_model.specs.Attributes.{method_attribute}
-use Rattle.stx_model.specs.Classes.{IsTree}
-use Rattle.stx_model.specs.Weight.{body_of}
+use Rattle.stx_base.specs.Attributes.{method_attribute}
+use Rattle.stx_base.specs.Classes.{IsTree}
+use Rattle.stx_base.specs.Weight.{body_of}
 
 -- ---- methods
 

@@ -1,24 +1,22 @@
 -- The laws that public functions carry.
 use Rattle.std.specs.Prelude.{◌≡◌, ℕ, ℤ, ◌+◌, ◌*◌, ◌<◌, ◌≤◌, List, [], map, length, Some}
-use Rattle.stx_scenario.specs.declared.numbers.MethodNo.{MethodNo}
 use Rattle.stx_scenario.specs.declared.scenario.Scenario.{Scenario}
-use Rattle.stx_model.specs.declared.call.Want.{Want}
-use Rattle.stx_model.specs.declared.history.PoolNote.{PoolNote}
-use Rattle.stx_model.specs.declared.history.PoolEntry.{PoolEntry}
-use Rattle.stx_model.specs.declared.history.StoreNote.{StoreNote}
-use Rattle.stx_model.specs.declared.history.StoreEntry.{StoreEntry}
+use Rattle.stx_base.specs.declared.call.Want.{Want}
+use Rattle.stx_base.specs.declared.history.PoolNote.{PoolNote}
+use Rattle.stx_base.specs.declared.history.PoolEntry.{PoolEntry}
+use Rattle.stx_base.specs.declared.history.StoreNote.{StoreNote}
+use Rattle.stx_base.specs.declared.history.StoreEntry.{StoreEntry}
 use Rattle.stx_model.specs.Faithful.{Faithful, IsBalanced, connection_bracket, transaction_bracket}
 use Rattle.stx_model.specs.Played.{Turns, want_so_far, outcome_of}
 use Rattle.stx_model.specs.Flat.{flat_weight}
-use Rattle.stx_model.specs.Weight.{InRange, IsLongestWay, IsOnCycle, leads, rank, above, cost, body_cost, body_of}
-use Rattle.stx_model.specs.Histories.{pool_notes_of, store_notes_of, total}
-use Rattle.stx_model.specs.Legal.{PoolLegal, StoreLegal}
+use Rattle.stx_base.specs.Histories.{pool_notes_of, store_notes_of, total}
+use Rattle.stx_base.specs.Legal.{PoolLegal, StoreLegal}
 use Rattle.stx_model.specs.Meanings.{State, Stops, state_of}
-use Rattle.stx_model.specs.Pools.{out}
+use Rattle.stx_base.specs.Pools.{out}
 use Rattle.stx_model.specs.Reads.{IsEndOf, ReadsAll, notes_read, TakesFresh, BeginsFresh, IsProperAfter}
 use Rattle.stx_model.specs.Script.{script}
-use Rattle.stx_model.specs.Serial.{Serial}
-use Rattle.stx_model.specs.Stores.{live}
+use Rattle.stx_base.specs.Serial.{Serial}
+use Rattle.stx_base.specs.Stores.{live}
 
 -- a legal history of the store is serial
 abbrev pub JournalIsSerial : Type 0
@@ -72,17 +70,3 @@ DoneIsFaithful = (S : Scenario) (so_far : Turns)
     → ((c : ℕ) → c < length S.clients → ReadsAll S c (pool_notes_of so_far.pool c) (store_notes_of so_far.store c))
     → ((c : ℕ) → c < length S.clients → want_so_far S so_far c ≡ Some Want.Done)
     → Faithful S (outcome_of S so_far)
-
--- no method leads to itself
-abbrev pub HasNoCycle : Scenario → Type 0
-HasNoCycle S = (m : MethodNo) → m.0 < length S.methods → ¬ (IsOnCycle (leads S) m)
-
--- where no method leads to itself, a rank is the steps of the longest way, and rank and cost are what the methods to
--- which a method leads make them
-pub record IsRanked (S : Scenario) (m : MethodNo) : Type 0 where
-  pub is_longest : IsLongestWay (leads S) m (rank S m)
-  pub from_ranks : rank S m ≡ above (map (rank S) (leads S m))
-  pub from_costs : cost S m ≡ body_cost S (cost S) (body_of S m)
-
-abbrev pub RanksAreLongestWays : Type 0
-RanksAreLongestWays = (S : Scenario) → InRange S → HasNoCycle S → (m : MethodNo) → m.0 < length S.methods → IsRanked S m

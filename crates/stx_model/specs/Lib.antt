@@ -1,13 +1,3 @@
-pub mod Histories
-pub mod Pools
-pub mod Alone
-pub mod Stores
-pub mod Legal
-pub mod Serial
-pub mod Attributes
-pub mod Classes
-pub mod Rules
-pub mod Weight
 pub mod Contexts
 pub mod Meanings
 pub mod Script
@@ -16,7 +6,3 @@ pub mod Played
 pub mod Faithful
 pub mod Reads
 pub mod Laws
-pub mod Lines
-pub mod Report
-pub mod RulesText
-pub mod CheckText

@@ -4,12 +4,12 @@ use Rattle.std.specs.Prelude.{ℕ, Bool, true, false, ◌&&◌, ◌==◌, List, 
 use Rattle.std.specs.Option.{option_map}
 use Rattle.std.specs.Ordering.{int_eq}
 use Rattle.stx_scenario.specs.declared.numbers.ClassNo.{ClassNo}
-use Rattle.stx_model.specs.declared.call.Want.{Want}
-use Rattle.stx_model.specs.declared.history.Access.{Access}
-use Rattle.stx_model.specs.declared.history.Answer.{Answer}
-use Rattle.stx_model.specs.declared.history.PoolNote.{PoolNote}
-use Rattle.stx_model.specs.declared.history.StoreNote.{StoreNote}
-use Rattle.stx_model.specs.declared.line.Line.{Line}
+use Rattle.stx_base.specs.declared.call.Want.{Want}
+use Rattle.stx_base.specs.declared.history.Access.{Access}
+use Rattle.stx_base.specs.declared.history.Answer.{Answer}
+use Rattle.stx_base.specs.declared.history.PoolNote.{PoolNote}
+use Rattle.stx_base.specs.declared.history.StoreNote.{StoreNote}
+use Rattle.stx_base.specs.declared.line.Line.{Line}
 use Rattle.stx_model.specs.Contexts.{Context, bare}
 
 -- ---- states and results

@@ -2,16 +2,16 @@
 use Rattle.std.specs.Prelude.{ℕ, zero, suc, ◌*◌, List, [], ◌∷◌, ◌++◌, map, length, Option, Some, None}
 use Rattle.std.specs.List.{fold, range_with_len}
 use Rattle.stx_scenario.specs.declared.scenario.Scenario.{Scenario}
-use Rattle.stx_model.specs.declared.call.Want.{Want}
-use Rattle.stx_model.specs.declared.history.PoolNote.{PoolNote}
-use Rattle.stx_model.specs.declared.history.PoolEntry.{PoolEntry}
-use Rattle.stx_model.specs.declared.history.StoreNote.{StoreNote}
-use Rattle.stx_model.specs.declared.history.StoreEntry.{StoreEntry}
-use Rattle.stx_model.specs.declared.line.Line.{Line}
-use Rattle.stx_model.specs.declared.outcome.Outcome.{Outcome}
-use Rattle.stx_model.specs.Histories.{pool_notes_of, store_notes_of}
-use Rattle.stx_model.specs.Pools.{pool_reply}
-use Rattle.stx_model.specs.Stores.{store_reply}
+use Rattle.stx_base.specs.declared.call.Want.{Want}
+use Rattle.stx_base.specs.declared.history.PoolNote.{PoolNote}
+use Rattle.stx_base.specs.declared.history.PoolEntry.{PoolEntry}
+use Rattle.stx_base.specs.declared.history.StoreNote.{StoreNote}
+use Rattle.stx_base.specs.declared.history.StoreEntry.{StoreEntry}
+use Rattle.stx_base.specs.declared.line.Line.{Line}
+use Rattle.stx_base.specs.declared.outcome.Outcome.{Outcome}
+use Rattle.stx_base.specs.Histories.{pool_notes_of, store_notes_of}
+use Rattle.stx_base.specs.Pools.{pool_reply}
+use Rattle.stx_base.specs.Stores.{store_reply}
 use Rattle.stx_model.specs.Meanings.{Result, state_of, stop_of}
 use Rattle.stx_model.specs.Script.{script}
 use Rattle.stx_model.specs.Flat.{flat_weight}

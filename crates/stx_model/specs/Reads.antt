@@ -2,13 +2,13 @@
 use Rattle.std.specs.Prelude.{◌≡◌, ℕ, ◌+◌, ◌-◌, ◌==◌, false, IsTrue, List, [], ◌∷◌, ◌++◌, length, ⊤}
 use Rattle.std.specs.List.{IsDistinct}
 use Rattle.stx_scenario.specs.declared.scenario.Scenario.{Scenario}
-use Rattle.stx_model.specs.declared.call.Want.{Want}
-use Rattle.stx_model.specs.declared.history.PoolNote.{PoolNote}
-use Rattle.stx_model.specs.declared.history.StoreNote.{StoreNote}
+use Rattle.stx_base.specs.declared.call.Want.{Want}
+use Rattle.stx_base.specs.declared.history.PoolNote.{PoolNote}
+use Rattle.stx_base.specs.declared.history.StoreNote.{StoreNote}
 use Rattle.stx_model.specs.Meanings.{State, state_of}
-use Rattle.stx_model.specs.Pools.{contains, out_after, pool_proper}
+use Rattle.stx_base.specs.Pools.{contains, out_after, pool_proper}
 use Rattle.stx_model.specs.Script.{script}
-use Rattle.stx_model.specs.Stores.{begun, store_proper}
+use Rattle.stx_base.specs.Stores.{begun, store_proper}
 
 -- ---- reading
 

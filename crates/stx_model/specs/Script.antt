@@ -14,17 +14,17 @@ use Rattle.stx_scenario.specs.declared.scenario.SyncMode.{SyncMode}
 use Rattle.stx_scenario.specs.declared.scenario.Propagation.{Propagation}
 use Rattle.stx_scenario.specs.declared.scenario.Rule.{Rule}
 use Rattle.stx_scenario.specs.declared.scenario.TxAttr.{TxAttr}
-use Rattle.stx_model.specs.declared.call.Want.{Want}
-use Rattle.stx_model.specs.declared.history.Access.{Access}
-use Rattle.stx_model.specs.declared.history.Answer.{Answer}
-use Rattle.stx_model.specs.declared.history.PoolNote.{PoolNote}
-use Rattle.stx_model.specs.declared.history.StoreNote.{StoreNote}
-use Rattle.stx_model.specs.declared.line.Line.{Line}
-use Rattle.stx_model.specs.declared.manager.Kind.{Kind}
-use Rattle.stx_model.specs.declared.manager.Ending.{Ending}
-use Rattle.stx_model.specs.Attributes.{attribute}
-use Rattle.stx_model.specs.Rules.{winner, rolls_back}
-use Rattle.stx_model.specs.Weight.{body_of}
+use Rattle.stx_base.specs.declared.call.Want.{Want}
+use Rattle.stx_base.specs.declared.history.Access.{Access}
+use Rattle.stx_base.specs.declared.history.Answer.{Answer}
+use Rattle.stx_base.specs.declared.history.PoolNote.{PoolNote}
+use Rattle.stx_base.specs.declared.history.StoreNote.{StoreNote}
+use Rattle.stx_base.specs.declared.line.Line.{Line}
+use Rattle.stx_base.specs.declared.manager.Kind.{Kind}
+use Rattle.stx_base.specs.declared.manager.Ending.{Ending}
+use Rattle.stx_base.specs.Attributes.{attribute}
+use Rattle.stx_base.specs.Rules.{winner, rolls_back}
+use Rattle.stx_base.specs.Weight.{body_of}
 use Rattle.stx_model.specs.Contexts.{Context, Live, Registration, bare}
 use Rattle.stx_model.specs.Meanings.{State, at_first, Result, Over, Stops, Breaks, Meaning, and_then, finally, say, with_context, ask, on_take, on_begin, on_access}
 

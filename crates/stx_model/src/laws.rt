@@ -1,5 +1,5 @@
 // The laws of the definitions, each carried by the contract of a function that does nothing.
-ghost use Rattle.stx_model.specs.Laws.{Balanced, DoneIsFaithful, EntriesWithin, GivesAllBack, JournalIsSerial, OwnNotesFresh, RanksAreLongestWays, ReadsInOrder, ReadsWithin, WantsProper};
+ghost use Rattle.stx_model.specs.Laws.{Balanced, DoneIsFaithful, EntriesWithin, GivesAllBack, JournalIsSerial, OwnNotesFresh, ReadsInOrder, ReadsWithin, WantsProper};
 
 /// The store's journal is a serial order. Take any legal history of the store, and run the committed transactions and
 /// the own statements alone, one after the other, in the order of the journal: each finds exactly the answers that it
@@ -57,11 +57,4 @@ pub fn gives_all_back()
 /// has read all of the client's own notes and is done, the outcome with the scripts' lines is a faithful run.
 pub fn done_is_faithful()
     ensures { DoneIsFaithful }
-{}
-
-/// What a rank is. Where no method leads to itself, the rank of a method is the steps of the longest way of calls from
-/// it: there is a way of so many steps, and none is longer. It is 0 where the method leads to none, else one more than
-/// the greatest rank to which it leads, and a method's cost is what its statements make it.
-pub fn ranks_are_longest_ways()
-    ensures { RanksAreLongestWays }
 {}

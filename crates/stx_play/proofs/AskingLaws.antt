@@ -1,16 +1,16 @@
 -- The answers that a store gives are of the kind that was asked for.
 use Rattle.std.proofs.Common.{◌≡◌, ℕ, true, ℤ, List, Option, Some, None, refl, subst}
 use Rattle.stx_scenario.specs.declared.numbers.RowNo.{RowNo}
-use Rattle.stx_model.specs.declared.call.Want.{Want}
-use Rattle.stx_model.specs.declared.call.Reply.{Reply}
-use Rattle.stx_model.specs.declared.call.StoreAnswer.{StoreAnswer}
-use Rattle.stx_model.specs.declared.history.Access.{Access}
-use Rattle.stx_model.specs.declared.history.Answer.{Answer}
-use Rattle.stx_model.specs.declared.history.StoreNote.{StoreNote}
-use Rattle.stx_model.specs.declared.history.StoreEntry.{StoreEntry}
-use Rattle.stx_model.specs.Alone.{RowMap, finds, found_or_absent}
+use Rattle.stx_base.specs.declared.call.Want.{Want}
+use Rattle.stx_base.specs.declared.call.Reply.{Reply}
+use Rattle.stx_base.specs.declared.call.StoreAnswer.{StoreAnswer}
+use Rattle.stx_base.specs.declared.history.Access.{Access}
+use Rattle.stx_base.specs.declared.history.Answer.{Answer}
+use Rattle.stx_base.specs.declared.history.StoreNote.{StoreNote}
+use Rattle.stx_base.specs.declared.history.StoreEntry.{StoreEntry}
+use Rattle.stx_base.specs.Alone.{RowMap, finds, found_or_absent}
 use Rattle.stx_model.specs.Meanings.{suits}
-use Rattle.stx_model.specs.Stores.{busy_or, access_answer, auto_answer, store_reply}
+use Rattle.stx_base.specs.Stores.{busy_or, access_answer, auto_answer, store_reply}
 use Rattle.stx_client.specs.View.{is_reply_to}
 use Rattle.stx_client.proofs.ReplyLaws.{access_reply, auto_reply}
 

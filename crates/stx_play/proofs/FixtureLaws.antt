@@ -10,11 +10,11 @@ use Rattle.stx_scenario.specs.declared.numbers.MethodNo.{MethodNo}
 use Rattle.stx_scenario.specs.declared.scenario.Scenario.{Scenario}
 use Rattle.stx_scenario.specs.declared.scenario.Method.{Method}
 use Rattle.stx_scenario.specs.BuiltIn.{built_in}
-use Rattle.stx_model.specs.Weight.{body_in, body_of}
-use Rattle.stx_model.specs.Attributes.{bean_attribute}
-use Rattle.stx_model.specs.Classes.{IsTree}
+use Rattle.stx_base.specs.Weight.{body_in, body_of}
+use Rattle.stx_base.specs.Attributes.{bean_attribute}
+use Rattle.stx_base.specs.Classes.{IsTree}
 use Rattle.stx_model.specs.Flat.{IsFlat, IsFlatMethod, HasFlatAttribute, AreFlatCalls, calls_weight, is_flat}
-use Rattle.stx_model.proofs.WorkedClasses.{built_in_tree}
+use Rattle.stx_base.proofs.WorkedClasses.{built_in_tree}
 use Rattle.stx_play.specs.Fixture.{IsPlain, EachPlain, only_call, calls_one_each}
 
 -- one more item of which it holds

@@ -4,14 +4,14 @@ use Rattle.std.specs.Prelude.{slice_set}
 use Rattle.std.specs.List.{range_with_len}
 use Rattle.std.proofs.lemmas.List.FromFn.{length-map-range_with_len, get_or-map-range_with_len}
 use Rattle.stx_scenario.specs.declared.scenario.Scenario.{Scenario}
-use Rattle.stx_model.specs.declared.call.Want.{Want}
+use Rattle.stx_base.specs.declared.call.Want.{Want}
 use Rattle.stx_model.specs.Flat.{IsFlat}
 use Rattle.stx_model.specs.Meanings.{stop_of}
-use Rattle.stx_model.specs.Stores.{store_reply}
+use Rattle.stx_base.specs.Stores.{store_reply}
 use Rattle.stx_model.specs.Played.{Turns, no_turns, turn, turns, run_out, replied, want_so_far, most_calls, lines_so_far, outcome_of}
 use Rattle.stx_model.specs.Faithful.{Faithful}
 use Rattle.stx_model.proofs.PlayedLaw.{faithful_if_done}
-use Rattle.stx_model.specs.Legal.{PoolLegal, StoreLegal}
+use Rattle.stx_base.specs.Legal.{PoolLegal, StoreLegal}
 use Rattle.stx_client.specs.View.{Playing as ClientView, at_start, script_of, HasReadAll}
 use Rattle.std.proofs.lemmas.Bool.Decides.{eqb_tells}
 use Rattle.stx_model.proofs.EntriesLaw.{entries_within}

@@ -4,14 +4,14 @@ use Rattle.std.specs.List.{fold, range_with_len}
 use Rattle.std.proofs.lemmas.List.Sums.{fold-append}
 use Rattle.std.proofs.Math.Nat.{eq-or-lt_of_le}
 use Rattle.stx_scenario.specs.declared.scenario.Scenario.{Scenario}
-use Rattle.stx_model.specs.declared.call.Want.{Want}
-use Rattle.stx_model.specs.declared.history.PoolNote.{PoolNote}
-use Rattle.stx_model.specs.declared.history.StoreNote.{StoreNote}
-use Rattle.stx_model.specs.Histories.{pool_notes_of, store_notes_of}
+use Rattle.stx_base.specs.declared.call.Want.{Want}
+use Rattle.stx_base.specs.declared.history.PoolNote.{PoolNote}
+use Rattle.stx_base.specs.declared.history.StoreNote.{StoreNote}
+use Rattle.stx_base.specs.Histories.{pool_notes_of, store_notes_of}
 use Rattle.stx_model.specs.Script.{script}
 use Rattle.stx_model.specs.Meanings.{stop_of}
 use Rattle.stx_model.specs.Played.{Turns, turn, turns, run_out, replied, with_pool, with_store, script_so_far, want_so_far, most_calls}
-use Rattle.stx_model.proofs.HistoryLaws.{pool_notes_of-push_other, store_notes_of-push_other}
+use Rattle.stx_base.proofs.HistoryLaws.{pool_notes_of-push_other, store_notes_of-push_other}
 use Rattle.stx_play.specs.Playing.{IsClientDone}
 use Rattle.stx_play.proofs.RangeLaws.{push_range}
 

@@ -3,22 +3,22 @@ use Rattle.std.proofs.Common.{◌≡◌, ℕ, ◌<◌, true, false, List, length
 use Rattle.std.specs.Prelude.{IsTrue, unwrap_or, OnOk}
 use Rattle.std.proofs.lemmas.Bool.{false≢true}
 use Rattle.stx_scenario.specs.declared.scenario.Scenario.{Scenario}
-use Rattle.stx_model.specs.declared.call.Want.{Want}
-use Rattle.stx_model.specs.declared.call.Reply.{Reply}
-use Rattle.stx_model.specs.declared.call.PoolCall.{PoolCall}
-use Rattle.stx_model.specs.declared.call.StoreCall.{StoreCall}
-use Rattle.stx_model.specs.declared.call.PoolAnswer.{PoolAnswer}
-use Rattle.stx_model.specs.declared.call.StoreAnswer.{StoreAnswer}
-use Rattle.stx_model.specs.declared.history.PoolNote.{PoolNote}
-use Rattle.stx_model.specs.declared.history.StoreNote.{StoreNote}
-use Rattle.stx_model.specs.Histories.{pool_notes_of, store_notes_of}
-use Rattle.stx_model.specs.Pools.{pool_reply, pool_proper}
-use Rattle.stx_model.specs.Stores.{store_reply, store_proper}
+use Rattle.stx_base.specs.declared.call.Want.{Want}
+use Rattle.stx_base.specs.declared.call.Reply.{Reply}
+use Rattle.stx_base.specs.declared.call.PoolCall.{PoolCall}
+use Rattle.stx_base.specs.declared.call.StoreCall.{StoreCall}
+use Rattle.stx_base.specs.declared.call.PoolAnswer.{PoolAnswer}
+use Rattle.stx_base.specs.declared.call.StoreAnswer.{StoreAnswer}
+use Rattle.stx_base.specs.declared.history.PoolNote.{PoolNote}
+use Rattle.stx_base.specs.declared.history.StoreNote.{StoreNote}
+use Rattle.stx_base.specs.Histories.{pool_notes_of, store_notes_of}
+use Rattle.stx_base.specs.Pools.{pool_reply, pool_proper}
+use Rattle.stx_base.specs.Stores.{store_reply, store_proper}
 use Rattle.stx_model.specs.Meanings.{Result as ScriptResult, Over, Stops, Breaks, state_of, stop_of}
 use Rattle.stx_model.specs.Reads.{TakesFresh, BeginsFresh, IsProperAfter}
 use Rattle.stx_model.specs.Played.{Turns, turn, replied, script_so_far, want_so_far, with_pool, with_store}
-use Rattle.stx_model.proofs.LegalLaws.{PoolLegal-push, StoreLegal-push, PoolFits-reply, StoreFits-reply}
-use Rattle.stx_model.proofs.HistoryLaws.{pool_notes_of-push, pool_notes_of-push_other, store_notes_of-push, store_notes_of-push_other}
+use Rattle.stx_base.proofs.LegalLaws.{PoolLegal-push, StoreLegal-push, PoolFits-reply, StoreFits-reply}
+use Rattle.stx_base.proofs.HistoryLaws.{pool_notes_of-push, pool_notes_of-push_other, store_notes_of-push, store_notes_of-push_other}
 use Rattle.stx_model.proofs.FreshLaw.{own_notes_fresh}
 use Rattle.stx_model.proofs.ProperLaw.{wants_proper}
 use Rattle.stx_client.specs.View.{Playing as ClientView, script_of, pool_call_want, store_call_want, pool_note, store_note, answers_pool, answers_store, calling, fed, with_pool as takes_pool, with_store as takes_store, HasReadAll}

@@ -2,17 +2,17 @@
 use Rattle.std.specs.Prelude.{◌≡◌, ℕ, ◌+◌, ◌<◌, ◌≤◌, Bool, false, List, [], length, map, Some, None, unwrap_or}
 use Rattle.std.specs.List.{range_with_len, All}
 use Rattle.stx_scenario.specs.declared.scenario.Scenario.{Scenario}
-use Rattle.stx_model.specs.declared.call.Want.{Want}
-use Rattle.stx_model.specs.declared.call.PoolAnswer.{PoolAnswer}
-use Rattle.stx_model.specs.declared.call.StoreAnswer.{StoreAnswer}
-use Rattle.stx_model.specs.declared.history.PoolNote.{PoolNote}
-use Rattle.stx_model.specs.declared.history.StoreNote.{StoreNote}
-use Rattle.stx_model.specs.Histories.{pool_notes_of, store_notes_of}
-use Rattle.stx_model.specs.Legal.{PoolLegal, StoreLegal}
+use Rattle.stx_base.specs.declared.call.Want.{Want}
+use Rattle.stx_base.specs.declared.call.PoolAnswer.{PoolAnswer}
+use Rattle.stx_base.specs.declared.call.StoreAnswer.{StoreAnswer}
+use Rattle.stx_base.specs.declared.history.PoolNote.{PoolNote}
+use Rattle.stx_base.specs.declared.history.StoreNote.{StoreNote}
+use Rattle.stx_base.specs.Histories.{pool_notes_of, store_notes_of}
+use Rattle.stx_base.specs.Legal.{PoolLegal, StoreLegal}
 use Rattle.stx_model.specs.Flat.{IsFlat}
 use Rattle.stx_model.specs.Reads.{ReadsAll}
 use Rattle.stx_model.specs.Played.{Turns, no_turns, turn, want_so_far, most_calls}
-use Rattle.stx_model.specs.declared.line.Line.{Line}
+use Rattle.stx_base.specs.declared.line.Line.{Line}
 use Rattle.stx_model.specs.Meanings.{state_of, stop_of}
 use Rattle.stx_client.specs.View.{Playing as ClientView, pool_note, store_note, script_of}
 use Rattle.stx_pool.specs.Pool.{Pool}

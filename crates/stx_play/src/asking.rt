@@ -1,16 +1,16 @@
 // Hands a client's call to the pool or to the store, and the answer back.
 ghost use Rattle.std.specs.Prelude.{◌≡◌, ◌<◌, IfOk, IsTrue, OnOk};
-ghost use Rattle.stx_model.specs.Histories.{pool_notes_of, store_notes_of};
-ghost use Rattle.stx_model.specs.Pools.{pool_proper};
-ghost use Rattle.stx_model.specs.Stores.{store_proper};
-ghost use Rattle.stx_model.specs.declared.call.Reply.{Reply};
+ghost use Rattle.stx_base.specs.Histories.{pool_notes_of, store_notes_of};
+ghost use Rattle.stx_base.specs.Pools.{pool_proper};
+ghost use Rattle.stx_base.specs.Stores.{store_proper};
+ghost use Rattle.stx_base.specs.declared.call.Reply.{Reply};
 ghost use Rattle.stx_client.specs.View.{pool_call_want, store_call_want, is_reply_to};
 ghost use Rattle.stx_pool.specs.Pool.{Replies as PoolReplies};
 ghost use Rattle.stx_store.specs.Store.{Replies as StoreReplies};
 ghost use Rattle.stx_play.specs.Playing.{pool_note_made, store_note_made};
 
 use std::alloc::Global;
-use stx_model::{PoolAnswer, PoolCall, StoreAnswer, StoreCall};
+use stx_base::{PoolAnswer, PoolCall, StoreAnswer, StoreCall};
 use stx_pool::PoolCore;
 use stx_scenario::NoMemory;
 use stx_store::StoreCore;

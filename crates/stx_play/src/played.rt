@@ -11,7 +11,7 @@ use crate::turn::take_turn;
 use std::alloc::Global;
 use std::marker::Model;
 use stx_client::{Client, Setup};
-use stx_model::{ClientLines, Outcome, Want};
+use stx_base::{ClientLines, Outcome, Want};
 use stx_pool::PoolCore;
 use stx_scenario::{List, NoMemory};
 use stx_store::StoreCore;

@@ -9,7 +9,7 @@ use crate::{Played, play};
 use std::alloc::Global;
 use std::test::Fail;
 use stx_client::Setup;
-use stx_model::{
+use stx_base::{
     Access, Answer, Ending, Kind, Line, Outcome, PoolEntry, PoolNote, StoreEntry, StoreNote,
 };
 use stx_scenario::{

@@ -1,13 +1,13 @@
 // One shared call of a client.
 ghost use Rattle.std.specs.Prelude.{◌≡◌, ◌≢◌, Some, OnOk};
 ghost use Rattle.stx_model.specs.Played.{want_so_far};
-ghost use Rattle.stx_model.specs.declared.call.Want.{Want as WantData};
+ghost use Rattle.stx_base.specs.declared.call.Want.{Want as WantData};
 ghost use Rattle.stx_play.specs.Playing.{IsReady, HasTurned, turns_of};
 
 use crate::asking::{ask_pool, ask_store};
 use std::alloc::Global;
 use stx_client::Client;
-use stx_model::{Call, Reply};
+use stx_base::{Call, Reply};
 use stx_pool::PoolCore;
 use stx_scenario::{NoMemory, Scenario};
 use stx_store::StoreCore;

@@ -3,14 +3,14 @@ use Rattle.std.proofs.Common.{◌≡◌, ◌≢◌, ℕ, zero, suc, ◌+◌, ◌
 use Rattle.std.specs.List.{position_or_len}
 use Rattle.std.proofs.lemmas.Bool.{cases_eq, cases_lt, lt-ltb, not-true, not-false}
 use Rattle.std.proofs.lemmas.List.Quantifiers.{position-Some}
-use Rattle.stx_model.specs.declared.call.Want.{Want}
-use Rattle.stx_model.specs.declared.history.PoolNote.{PoolNote}
-use Rattle.stx_model.specs.declared.history.PoolEntry.{PoolEntry}
-use Rattle.stx_model.specs.Histories.{pool_notes, pool_notes_of}
-use Rattle.stx_model.specs.Pools.{contains, without, out, first_free, taken_or_empty, pool_reply, pool_proper}
-use Rattle.stx_model.specs.Legal.{PoolFits, PoolLegal}
-use Rattle.stx_model.proofs.LegalLaws.{PoolLegal-push}
-use Rattle.stx_model.proofs.PoolLaws.{out-push, contains-without_same, contains-without_other, length-without, first_free-at, first_free-all, given_is_own, out_is_owned, length-out, none_free, some_free}
+use Rattle.stx_base.specs.declared.call.Want.{Want}
+use Rattle.stx_base.specs.declared.history.PoolNote.{PoolNote}
+use Rattle.stx_base.specs.declared.history.PoolEntry.{PoolEntry}
+use Rattle.stx_base.specs.Histories.{pool_notes, pool_notes_of}
+use Rattle.stx_base.specs.Pools.{contains, without, out, first_free, taken_or_empty, pool_reply, pool_proper}
+use Rattle.stx_base.specs.Legal.{PoolFits, PoolLegal}
+use Rattle.stx_base.proofs.LegalLaws.{PoolLegal-push}
+use Rattle.stx_base.proofs.PoolLaws.{out-push, contains-without_same, contains-without_other, length-without, first_free-at, first_free-all, given_is_own, out_is_owned, length-out, none_free, some_free}
 use Rattle.stx_pool.specs.Pool.{IsSound}
 
 -- ---- the first flag that isn't set

@@ -1,11 +1,11 @@
 -- What callers see of a pool, what a call leaves of it, and what its fields keep true.
 use Rattle.std.specs.Prelude.{◌≡◌, ℕ, ◌+◌, ◌<◌, ◌≤◌, Bool, false, List, [], ◌∷◌, ◌++◌, length, Some, slice_index_or}
-use Rattle.stx_model.specs.declared.call.Want.{Want}
-use Rattle.stx_model.specs.declared.history.PoolNote.{PoolNote}
-use Rattle.stx_model.specs.declared.history.PoolEntry.{PoolEntry}
-use Rattle.stx_model.specs.Histories.{pool_notes}
-use Rattle.stx_model.specs.Pools.{contains, out, pool_reply}
-use Rattle.stx_model.specs.Legal.{PoolLegal}
+use Rattle.stx_base.specs.declared.call.Want.{Want}
+use Rattle.stx_base.specs.declared.history.PoolNote.{PoolNote}
+use Rattle.stx_base.specs.declared.history.PoolEntry.{PoolEntry}
+use Rattle.stx_base.specs.Histories.{pool_notes}
+use Rattle.stx_base.specs.Pools.{contains, out, pool_reply}
+use Rattle.stx_base.specs.Legal.{PoolLegal}
 
 -- a pool of the connections 1 to `size`, with its history
 pub record Pool : Type 0 where

@@ -1,12 +1,12 @@
 // The pool itself: its history, and which connections are out.
 ghost use Rattle.std.specs.Prelude.{◌≡◌, ◌≤◌, ◌<◌, ◌↔◌, length, not, position, IfOk, OnErr, IsTrue, IsNone};
-ghost use Rattle.stx_model.specs.Histories.{pool_notes, pool_notes_of};
-ghost use Rattle.stx_model.specs.Pools.{out, pool_proper, taken_or_empty};
+ghost use Rattle.stx_base.specs.Histories.{pool_notes, pool_notes_of};
+ghost use Rattle.stx_base.specs.Pools.{out, pool_proper, taken_or_empty};
 ghost use Rattle.stx_pool.specs.Pool.{Replies, unused};
 
 use std::alloc::Global;
 use std::marker::Model;
-use stx_model::{Connection, PoolEntry, PoolNote, Want};
+use stx_base::{Connection, PoolEntry, PoolNote, Want};
 use stx_scenario::{List, NoMemory};
 
 /// A pool of connections, seen as its size and its history.

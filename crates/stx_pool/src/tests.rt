@@ -1,7 +1,7 @@
 // The pool's calls with ample memory.
 use super::*;
 use std::alloc::Global;
-use stx_model::{Connection, PoolEntry, PoolNote};
+use stx_base::{Connection, PoolEntry, PoolNote};
 
 // The number of what was taken, which is spent.
 fn number_of(taken: Option<Connection>) -> Option<u32> {
@@ -16,7 +16,7 @@ fn number_of(taken: Option<Connection>) -> Option<u32> {
 }
 
 #[test]
-#[tactic(auto, unfolding(stx_model::specs::Pools::pool_proper))]
+#[tactic(auto, unfolding(stx_base::specs::Pools::pool_proper))]
 fn the_least_connection_that_is_in_is_taken(rt: HostRuntime) {
     let alloc = rt.alloc();
     let mut pool = PoolCore::new(alloc, 2).expect(&rt, "memory");

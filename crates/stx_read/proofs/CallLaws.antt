@@ -7,8 +7,8 @@ use Rattle.std.proofs.lemmas.Bool.{false≢true, false_from_ne_true, ltb-true, l
 use Rattle.std.proofs.lemmas.Option.{none-some}
 use Rattle.stx_scenario.specs.declared.numbers.MethodNo.{MethodNo}
 use Rattle.stx_scenario.specs.declared.scenario.Scenario.{Scenario}
-use Rattle.stx_model.specs.Weight.{InRange, IsOnCycle, leads, rank, weight}
-use Rattle.stx_model.specs.Lines.{method_name}
+use Rattle.stx_base.specs.Weight.{InRange, IsOnCycle, leads, rank, weight}
+use Rattle.stx_base.specs.Lines.{method_name}
 use Rattle.stx_graph.specs.Ranks.{IsFirst}
 use Rattle.stx_graph.specs.Graph.{LeadsToItself, IsTooDeep, NoCycle, NoneTooDeep, IsAccepted, IsDue}
 use Rattle.stx_graph.specs.declared.graph.GraphFault.{GraphFault}

@@ -6,9 +6,9 @@ use Rattle.std.proofs.lemmas.Map.Keys.{IsDistinct-cons}
 use Rattle.std.proofs.lemmas.Map.Steps.{length-le_from_distinct_below}
 use Rattle.stx_scenario.specs.declared.numbers.MethodNo.{MethodNo}
 use Rattle.stx_scenario.specs.declared.scenario.Scenario.{Scenario}
-use Rattle.stx_model.specs.Weight.{Next, Way, LeadsTo, IsOnCycle, InRange, leads, has_method}
-use Rattle.stx_model.proofs.WayLaws.{numbered, same_method, has_itself}
-use Rattle.stx_model.proofs.WeightLaws.{leads_below}
+use Rattle.stx_base.specs.Weight.{Next, Way, LeadsTo, IsOnCycle, InRange, leads, has_method}
+use Rattle.stx_base.proofs.WayLaws.{numbered, same_method, has_itself}
+use Rattle.stx_base.proofs.WeightLaws.{leads_below}
 use Rattle.stx_read.specs.Calls.{reaches, leads_to_itself}
 use Rattle.stx_read.specs.Laws.{CyclesAreWays}
 

@@ -5,9 +5,9 @@ use Rattle.std.proofs.lemmas.Option.{none-some}
 use Rattle.stx_scenario.specs.declared.scenario.Scenario.{Scenario}
 use Rattle.stx_scenario.specs.declared.numbers.ClassNo.{ClassNo}
 use Rattle.stx_scenario.specs.BuiltIn.{built_in}
-use Rattle.stx_model.specs.Lines.{class_name}
-use Rattle.stx_model.specs.Classes.{first_own_ancestor, first_too_deep}
-use Rattle.stx_model.specs.Classes.{IsTree}
+use Rattle.stx_base.specs.Lines.{class_name}
+use Rattle.stx_base.specs.Classes.{first_own_ancestor, first_too_deep}
+use Rattle.stx_base.specs.Classes.{IsTree}
 use Rattle.stx_read.specs.declared.fault.ReadFault.{ReadFault}
 use Rattle.stx_read.specs.declared.fault.ReadFault.TheVariants.{ClassCycle, ClassDepth}
 use Rattle.stx_read.specs.Faults.{first_some}

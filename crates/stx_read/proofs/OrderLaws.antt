@@ -16,7 +16,7 @@ use Rattle.stx_scenario.specs.declared.scenario.SyncDecl.{SyncDecl}
 use Rattle.stx_scenario.specs.declared.scenario.Listener.{Listener}
 use Rattle.stx_scenario.specs.declared.scenario.Phase.{Phase}
 use Rattle.stx_scenario.specs.declared.scenario.Stmt.{Stmt}
-use Rattle.stx_model.specs.Weight.{CallbackInRange, StatementInRange, SyncInRange, InRange}
+use Rattle.stx_base.specs.Weight.{CallbackInRange, StatementInRange, SyncInRange, InRange}
 use Rattle.stx_read.specs.declared.fault.Fault.{Fault}
 use Rattle.stx_read.specs.declared.fault.Stage.{Stage}
 use Rattle.stx_read.specs.declared.fault.Stage.TheVariants.{BadName, OutOfRange, TooMany, BadWord, UnknownRef, CallbackBody}

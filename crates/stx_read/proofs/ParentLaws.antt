@@ -9,7 +9,7 @@ use Rattle.stx_scenario.specs.declared.numbers.ClassNo.{ClassNo}
 use Rattle.stx_scenario.specs.declared.scenario.Scenario.{Scenario}
 use Rattle.stx_scenario.specs.declared.scenario.ClassDecl.{ClassDecl}
 use Rattle.stx_scenario.specs.BuiltIn.{built_in}
-use Rattle.stx_model.specs.Classes.{number_above, parent_in, parents_of, is_unknown, has_unknown_parent, first_unknown_parent}
+use Rattle.stx_base.specs.Classes.{number_above, parent_in, parents_of, is_unknown, has_unknown_parent, first_unknown_parent}
 use Rattle.stx_read.specs.Judge.{parent_known, own_classes}
 use Rattle.stx_read.specs.Order.{ClassInOrder}
 use Rattle.stx_read.proofs.SearchLaws.{search_none, none_passes}

@@ -4,8 +4,8 @@ use Rattle.std.specs.Option.{option_map}
 use Rattle.std.specs.List.{find, list_any, range_with_len}
 use Rattle.stx_scenario.specs.declared.numbers.MethodNo.{MethodNo}
 use Rattle.stx_scenario.specs.declared.scenario.Scenario.{Scenario}
-use Rattle.stx_model.specs.Weight.{Next, has_method, leads, rank, weight}
-use Rattle.stx_model.specs.Lines.{method_name}
+use Rattle.stx_base.specs.Weight.{Next, has_method, leads, rank, weight}
+use Rattle.stx_base.specs.Lines.{method_name}
 use Rattle.stx_read.specs.declared.fault.ReadFault.{ReadFault}
 
 -- a way of one step or more, and at most this many, leads from m to n

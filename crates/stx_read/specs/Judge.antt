@@ -21,9 +21,9 @@ use Rattle.stx_scenario.specs.declared.scenario.Listener.{Listener}
 use Rattle.stx_scenario.specs.declared.scenario.Phase.{Phase}
 use Rattle.stx_scenario.specs.declared.scenario.Stmt.{Stmt}
 use Rattle.stx_scenario.specs.BuiltIn.{built_in}
-use Rattle.stx_model.specs.Attributes.{attribute}
-use Rattle.stx_model.specs.Classes.{is_below, first_own_ancestor, first_too_deep}
-use Rattle.stx_model.specs.Lines.{class_name}
+use Rattle.stx_base.specs.Attributes.{attribute}
+use Rattle.stx_base.specs.Classes.{is_below, first_own_ancestor, first_too_deep}
+use Rattle.stx_base.specs.Lines.{class_name}
 use Rattle.stx_read.specs.declared.fault.Fault.{Fault}
 use Rattle.stx_read.specs.declared.fault.ReadFault.{ReadFault}
 use Rattle.stx_read.specs.declared.fault.Stage.{Stage}

@@ -2,7 +2,7 @@
 use Rattle.std.specs.Prelude.{◌≡◌, ◌↔◌, ◌<◌, true, length}
 use Rattle.stx_scenario.specs.declared.numbers.MethodNo.{MethodNo}
 use Rattle.stx_scenario.specs.declared.scenario.Scenario.{Scenario}
-use Rattle.stx_model.specs.Weight.{InRange, IsOnCycle, leads}
+use Rattle.stx_base.specs.Weight.{InRange, IsOnCycle, leads}
 use Rattle.stx_read.specs.Calls.{leads_to_itself}
 use Rattle.stx_read.specs.Judge.{IsValid}
 use Rattle.stx_read.specs.Order.{IsInOrder}

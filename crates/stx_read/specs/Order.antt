@@ -12,8 +12,8 @@ use Rattle.stx_scenario.specs.declared.scenario.RuleBy.{RuleBy}
 use Rattle.stx_scenario.specs.declared.scenario.SyncDecl.{SyncDecl}
 use Rattle.stx_scenario.specs.declared.scenario.Listener.{Listener}
 use Rattle.stx_scenario.specs.declared.scenario.Stmt.{Stmt}
-use Rattle.stx_model.specs.Weight.{InRange, rank, weight, leads, IsOnCycle}
-use Rattle.stx_model.specs.Classes.{IsTree}
+use Rattle.stx_base.specs.Weight.{InRange, rank, weight, leads, IsOnCycle}
+use Rattle.stx_base.specs.Classes.{IsTree}
 use Rattle.stx_read.specs.Names.{is_name, is_class_name, is_pattern}
 use Rattle.stx_read.specs.Judge.{is_class, is_method, names_known, own_known, parent_known, first_rows, own_classes, allowed_before_commit, allowed_around, allowed_in}
 

@@ -4,10 +4,10 @@ use Rattle.std.specs.Prelude.{⊤}
 use Rattle.std.proofs.lemmas.List.{take_all, take-take, take-append-le, length-take}
 use Rattle.std.proofs.lemmas.List.Elements.{filter-append}
 use Rattle.std.proofs.lemmas.List.Sums.{fold-append}
-use Rattle.stx_model.specs.declared.history.Access.{Access}
-use Rattle.stx_model.specs.declared.history.StoreNote.{StoreNote}
-use Rattle.stx_model.specs.Alone.{RowMap, Alone, applied, stepped, after}
-use Rattle.stx_model.specs.Stores.{is_busy, works, work}
+use Rattle.stx_base.specs.declared.history.Access.{Access}
+use Rattle.stx_base.specs.declared.history.StoreNote.{StoreNote}
+use Rattle.stx_base.specs.Alone.{RowMap, Alone, applied, stepped, after}
+use Rattle.stx_base.specs.Stores.{is_busy, works, work}
 use Rattle.stx_report.specs.Kept.{Kept, nothing, kept_after, kept_of, worker}
 
 -- ---- the rows after the work are those after what is kept

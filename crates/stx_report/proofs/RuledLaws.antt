@@ -8,7 +8,7 @@ use Rattle.stx_scenario.specs.declared.scenario.Scenario.{Scenario}
 use Rattle.stx_scenario.specs.declared.scenario.Bean.{Bean}
 use Rattle.stx_scenario.specs.declared.scenario.Method.{Method}
 use Rattle.stx_scenario.specs.declared.scenario.TxAttr.{TxAttr}
-use Rattle.stx_model.specs.Attributes.{attribute, bean_attribute, method_attribute}
+use Rattle.stx_base.specs.Attributes.{attribute, bean_attribute, method_attribute}
 
 abbrev pub HasFew : Option TxAttr → Type 0
 HasFew tx = IfSome tx (λ attribute. length attribute.rules < 2 ^ 32)

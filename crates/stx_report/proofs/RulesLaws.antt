@@ -7,9 +7,9 @@ use Rattle.stx_scenario.specs.declared.numbers.ClassNo.{ClassNo}
 use Rattle.stx_scenario.specs.declared.numbers.MethodNo.{MethodNo}
 use Rattle.stx_scenario.specs.declared.scenario.Scenario.{Scenario}
 use Rattle.stx_scenario.specs.declared.scenario.TxAttr.{TxAttr}
-use Rattle.stx_model.specs.Rules.{winner, rolls_back}
-use Rattle.stx_model.specs.Lines.{method_name, class_name}
-use Rattle.stx_model.specs.RulesText.{decision_text, method_decisions, method_numbered, rules_text}
+use Rattle.stx_base.specs.Rules.{winner, rolls_back}
+use Rattle.stx_base.specs.Lines.{method_name, class_name}
+use Rattle.stx_base.specs.RulesText.{decision_text, method_decisions, method_numbered, rules_text}
 use Rattle.stx_report.specs.Decisions.{decision_line}
 
 -- what all numbers below n add

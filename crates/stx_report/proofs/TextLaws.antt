@@ -10,13 +10,13 @@ use Rattle.std.specs.BTreeMap.{insert_entry}
 use Rattle.std.specs.FinMap as finite
 use Rattle.std.specs.List.{filter_map, cons_option, enumerate_from}
 use Rattle.stx_scenario.specs.declared.scenario.Scenario.{Scenario}
-use Rattle.stx_model.specs.declared.history.StoreEntry.{StoreEntry}
-use Rattle.stx_model.specs.declared.line.Line.{Line}
-use Rattle.stx_model.specs.declared.outcome.Outcome.{Outcome}
-use Rattle.stx_model.specs.Lines.{Shared, shared_by, line_text, line_feed}
-use Rattle.stx_model.specs.Report.{next_place, pool_left, store_left, lines_text, client_text, clients_text, commit_words, commit_text, journal_text, named_row, rows_text, by_name, final_rows, printed}
-use Rattle.stx_model.specs.Alone.{RowMap}
-use Rattle.stx_model.specs.Stores.{committed_rows}
+use Rattle.stx_base.specs.declared.history.StoreEntry.{StoreEntry}
+use Rattle.stx_base.specs.declared.line.Line.{Line}
+use Rattle.stx_base.specs.declared.outcome.Outcome.{Outcome}
+use Rattle.stx_base.specs.Lines.{Shared, shared_by, line_text, line_feed}
+use Rattle.stx_base.specs.Report.{next_place, pool_left, store_left, lines_text, client_text, clients_text, commit_words, commit_text, journal_text, named_row, rows_text, by_name, final_rows, printed}
+use Rattle.stx_base.specs.Alone.{RowMap}
+use Rattle.stx_base.specs.Stores.{committed_rows}
 use Rattle.stx_report.specs.RowValues.{values_from, found_rows}
 
 -- rows put among sorted rows, one after the other

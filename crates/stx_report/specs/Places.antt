@@ -2,9 +2,9 @@
 use Rattle.std.specs.Prelude.{◌≡◌, ℕ, ◌<◌, List, [], ◌∷◌, ◌++◌, length, codes, Some, slice_get, set, get_or}
 use Rattle.std.specs.Fmt.{decimal}
 use Rattle.stx_scenario.specs.declared.scenario.Scenario.{Scenario}
-use Rattle.stx_model.specs.declared.line.Line.{Line}
-use Rattle.stx_model.specs.Lines.{line_feed}
-use Rattle.stx_model.specs.Report.{places_of, lines_text}
+use Rattle.stx_base.specs.declared.line.Line.{Line}
+use Rattle.stx_base.specs.Lines.{line_feed}
+use Rattle.stx_base.specs.Report.{places_of, lines_text}
 
 -- the list of each client below a count
 pub record AreEach (of_client : ℕ → List ℕ) (clients : ℕ) (places : List (List ℕ)) : Type 0 where

@@ -3,10 +3,10 @@ use Rattle.std.specs.Prelude.{ℕ, ℤ, ◌+◌, List, [], ◌∷◌, set, Optio
 use Rattle.std.specs.List.{filter_map, zip, fold}
 use Rattle.std.specs.Option.{option_map}
 use Rattle.std.specs.FinMap as finite
-use Rattle.stx_model.specs.declared.history.Access.{Access}
-use Rattle.stx_model.specs.declared.history.StoreNote.{StoreNote}
-use Rattle.stx_model.specs.Alone.{RowMap}
-use Rattle.stx_model.specs.Stores.{is_busy}
+use Rattle.stx_base.specs.declared.history.Access.{Access}
+use Rattle.stx_base.specs.declared.history.StoreNote.{StoreNote}
+use Rattle.stx_base.specs.Alone.{RowMap}
+use Rattle.stx_base.specs.Stores.{is_busy}
 use Rattle.stx_report.specs.Kept.{Kept}
 
 -- the value of the row with this number and of those after it, one for each name

@@ -1,6 +1,6 @@
 // The text that answers a check.
 ghost use Rattle.std.specs.Prelude.{◌≡◌, IfOk};
-ghost use Rattle.stx_model.specs.CheckText.{check_words};
+ghost use Rattle.stx_base.specs.CheckText.{check_words};
 
 use std::alloc::Global;
 use stx_scenario::NoMemory;

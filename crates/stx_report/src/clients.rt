@@ -1,13 +1,13 @@
 // The text of the clients: their numbers and lines, a line of a shared call with its entry's place.
 ghost use Rattle.std.specs.Prelude.{◌≡◌, ◌++◌, OnOk, drop};
-ghost use Rattle.stx_model.specs.Report as texts;
+ghost use Rattle.stx_base.specs.Report as texts;
 ghost use Rattle.stx_trace.specs.LineKinds.{shared_of};
 ghost use Rattle.stx_report.specs.Places.{client_words};
 
 use crate::places::{pool_places, store_places};
 use crate::text::push_text;
 use std::alloc::Global;
-use stx_model::{ClientLines, Line, Outcome};
+use stx_base::{ClientLines, Line, Outcome};
 use stx_scenario::{NoMemory, Scenario};
 use stx_trace::{History, push_line};
 

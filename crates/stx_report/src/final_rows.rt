@@ -4,9 +4,9 @@
 // each commit take effect where it stands. So the whole takes time linear in the history, but for the look-ups by a
 // transaction's number.
 ghost use Rattle.std.specs.Prelude.{◌≡◌, ℕ, set, IfOk, OnOk, if◌then◌else◌, ◌==◌};
-ghost use Rattle.stx_model.specs.Alone.{first_rows};
-ghost use Rattle.stx_model.specs.Histories.{store_notes};
-ghost use Rattle.stx_model.specs.Stores.{committed_rows, work};
+ghost use Rattle.stx_base.specs.Alone.{first_rows};
+ghost use Rattle.stx_base.specs.Histories.{store_notes};
+ghost use Rattle.stx_base.specs.Stores.{committed_rows, work};
 ghost use Rattle.stx_report.specs.Kept.{kept_after, kept_of, nothing, worker};
 ghost use Rattle.stx_report.specs.KeptWorks.{kept_by};
 ghost use Rattle.stx_report.specs.RowValues.{values_from, written, all_written, committed_values};
@@ -14,7 +14,7 @@ ghost use Rattle.stx_report.specs.RowValues.{values_from, written, all_written, 
 use std::alloc::Global;
 use std::collections::BTreeMap;
 use std::marker::Model;
-use stx_model::{Access, Answer, StoreEntry, StoreNote};
+use stx_base::{Access, Answer, StoreEntry, StoreNote};
 use stx_scenario::{NoMemory, Scenario};
 
 /// What is kept of a transaction's work: the accesses that no return has undone, and how many of them there were at

@@ -1,11 +1,11 @@
 // The text of the journal: the commits among the store's entries, by their numbers.
 ghost use Rattle.std.specs.Prelude.{◌≡◌, ◌++◌, IfOk, OnOk, string_bytes, Some};
 ghost use Rattle.std.specs.Option.{option_map};
-ghost use Rattle.stx_model.specs.Report as texts;
+ghost use Rattle.stx_base.specs.Report as texts;
 
 use crate::text::push_text;
 use std::alloc::Global;
-use stx_model::{Answer, StoreEntry, StoreNote};
+use stx_base::{Answer, StoreEntry, StoreNote};
 use stx_scenario::NoMemory;
 
 /// Appends a line for each commit among the entries of the whole history.

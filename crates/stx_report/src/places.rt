@@ -1,10 +1,10 @@
 // The places of each client's entries in a history, handed out in one walk over the history.
 ghost use Rattle.std.specs.Prelude.{◌≡◌, ℕ, ◌<◌, IfOk, OnOk, replicate, []};
-ghost use Rattle.stx_model.specs.Report as texts;
+ghost use Rattle.stx_base.specs.Report as texts;
 ghost use Rattle.stx_report.specs.Places.{AreEach, AreHandedOut, placed};
 
 use std::alloc::Global;
-use stx_model::{PoolEntry, StoreEntry};
+use stx_base::{PoolEntry, StoreEntry};
 use stx_scenario::{List, NoMemory};
 
 /// The places, from 1, of the entries of each client in the pool's history.

@@ -1,6 +1,6 @@
 // The text that answers a refused scenario.
 ghost use Rattle.std.specs.Prelude.{◌≡◌, ◌≢◌, ◌++◌, IfOk, codes};
-ghost use Rattle.stx_model.specs.Lines.{line_feed};
+ghost use Rattle.stx_base.specs.Lines.{line_feed};
 ghost use Rattle.stx_read.specs.Refusals.{refusal_text};
 
 use std::alloc::Global;

@@ -1,6 +1,6 @@
 // The report of a run: each client's lines, the journal, and the rows at the end.
 ghost use Rattle.std.specs.Prelude.{◌≡◌, IfOk};
-ghost use Rattle.stx_model.specs.Report.{printed};
+ghost use Rattle.stx_base.specs.Report.{printed};
 
 use crate::clients::push_clients;
 use crate::final_rows::final_values;
@@ -8,7 +8,7 @@ use crate::journal::push_journal;
 use crate::rows::push_rows;
 use crate::text::push_text;
 use std::alloc::Global;
-use stx_model::Outcome;
+use stx_base::Outcome;
 use stx_scenario::{NoMemory, Scenario};
 
 /// The report of what a run of a scenario left.

@@ -2,10 +2,10 @@
 ghost use Rattle.std.specs.Prelude.{◌≡◌, ◌<◌, ◌^◌, ◌++◌, IfOk, OnOk, IfSome, Some, length, string_bytes, take};
 ghost use Rattle.stx_scenario.specs.BuiltIn.{built_in};
 ghost use Rattle.stx_scenario.specs.declared.numbers.MethodNo.{MethodNo as MethodNumber};
-ghost use Rattle.stx_model.specs.Attributes.{attribute as attribute_of, attributes as attributes_of};
-ghost use Rattle.stx_model.specs.Classes.{parents_of};
-ghost use Rattle.stx_model.specs.Lines as texts;
-ghost use Rattle.stx_model.specs.RulesText.{rules_text, method_decisions, decisions_text};
+ghost use Rattle.stx_base.specs.Attributes.{attribute as attribute_of, attributes as attributes_of};
+ghost use Rattle.stx_base.specs.Classes.{parents_of};
+ghost use Rattle.stx_base.specs.Lines as texts;
+ghost use Rattle.stx_base.specs.RulesText.{rules_text, method_decisions, decisions_text};
 ghost use Rattle.stx_report.specs.Decisions.{decision_line};
 
 use crate::text::push_text;

@@ -2,14 +2,14 @@
 ghost use Rattle.std.specs.Prelude.{◌≡◌, ◌≢◌, ◌<◌, ◌^◌, IfOk, IfSome, None, length, take};
 ghost use Rattle.stx_scenario.specs.BuiltIn.{built_in};
 ghost use Rattle.stx_scenario.specs.declared.numbers.MethodNo.{MethodNo as MethodNumber};
-ghost use Rattle.stx_model.specs.Attributes.{attribute as attribute_of};
+ghost use Rattle.stx_base.specs.Attributes.{attribute as attribute_of};
 
 use super::{check_text, print, refusal_text, rules_text};
 use std::alloc::Global;
 use std::test::Fail;
 use stx_attr::Attributes;
 use stx_classes::{ClassFault, ClassTree};
-use stx_model::{
+use stx_base::{
     Access, Answer, ClientLines, Ending, Kind, Line, Outcome, PoolEntry, PoolNote, StoreEntry,
     StoreNote,
 };

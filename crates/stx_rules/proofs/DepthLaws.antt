@@ -2,7 +2,7 @@
 use Rattle.std.proofs.Common.{◌≡◌, ℕ, ◌<◌, ◌≤◌, List, length, sym, subst}
 use Rattle.std.proofs.lemmas.List.{length-map}
 use Rattle.stx_scenario.specs.declared.scenario.ClassDecl.{ClassDecl}
-use Rattle.stx_model.specs.Classes.{parents_of}
+use Rattle.stx_base.specs.Classes.{parents_of}
 
 as_many : (classes : List ClassDecl) → length (parents_of classes) ≡ length classes
 as_many classes = length-map classes _

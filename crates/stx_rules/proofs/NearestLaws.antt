@@ -5,7 +5,7 @@ use Rattle.std.specs.Option.{option_map, option_and_then}
 use Rattle.std.proofs.lemmas.Option.{slice_get-map}
 use Rattle.stx_scenario.specs.declared.scenario.ClassDecl.{ClassDecl}
 use Rattle.stx_scenario.specs.declared.scenario.Rule.{Rule}
-use Rattle.stx_model.specs.Rules.{lesser, least, rule_depth, first_least_from, winner}
+use Rattle.stx_base.specs.Rules.{lesser, least, rule_depth, first_least_from, winner}
 use Rattle.stx_rules.specs.Laws.{depth_at, IsNearest, WinnerIsNearest}
 use Rattle.stx_rules.proofs.WinnerLaws.{least_here, least_later, first_here, first_later}
 

@@ -3,7 +3,7 @@ use Rattle.std.proofs.Common.{◌≡◌, ◌↔◌, ℕ, Bool, true, false, nat_
 use Rattle.std.specs.List.{starts_with}
 use Rattle.std.specs.Str.Iter.{HasSubslice}
 use Rattle.std.proofs.lemmas.Bool.{false≢true, and_parts, and_from, or_cases, or_left, or_right}
-use Rattle.stx_model.specs.Rules.{has_part}
+use Rattle.stx_base.specs.Rules.{has_part}
 
 begins : (part text : List ℕ) → starts_with nat_eq text part ≡ true → (rest : List ℕ) × (text ≡ part ++ rest)
 begins [] text is = (text, refl)

@@ -6,7 +6,7 @@ use Rattle.std.proofs.lemmas.Bool.{le-leb, lt-leb}
 use Rattle.std.proofs.lemmas.List.{drop_more, drop-map}
 use Rattle.std.proofs.Math.ListN.{drop_of_length-le}
 use Rattle.stx_scenario.specs.declared.scenario.Rule.{Rule}
-use Rattle.stx_model.specs.Rules.{lesser, least, is_at, first_least_from}
+use Rattle.stx_base.specs.Rules.{lesser, least, is_at, first_least_from}
 use Rattle.stx_rules.specs.declared.decision.Match.{Match}
 
 -- the first match of least depth, among depths whose places are counted from n

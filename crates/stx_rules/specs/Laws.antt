@@ -3,7 +3,7 @@ use Rattle.std.specs.Prelude.{◌≡◌, ◌↔◌, ℕ, ◌<◌, ◌≤◌, Lis
 use Rattle.std.specs.Option.{option_and_then}
 use Rattle.stx_scenario.specs.declared.scenario.ClassDecl.{ClassDecl}
 use Rattle.stx_scenario.specs.declared.scenario.Rule.{Rule}
-use Rattle.stx_model.specs.Rules.{rule_depth, winner}
+use Rattle.stx_base.specs.Rules.{rule_depth, winner}
 
 -- how deep the rule at a place is; none where it matches neither the thrown class nor one above it
 abbrev pub depth_at : List ClassDecl → List Rule → ℕ → ℕ → Option ℕ

@@ -1,8 +1,8 @@
 // The decision for a thrown class, and the rule that makes it.
 ghost use Rattle.std.specs.Prelude.{◌≡◌, ◌≤◌, ◌<◌, ◌^◌, ◌||◌, length, take};
 ghost use Rattle.stx_scenario.specs.BuiltIn.{built_in};
-ghost use Rattle.stx_model.specs.Classes.{parents_of, is_below_in};
-ghost use Rattle.stx_model.specs.Rules.{winner, rolls_back};
+ghost use Rattle.stx_base.specs.Classes.{parents_of, is_below_in};
+ghost use Rattle.stx_base.specs.Rules.{winner, rolls_back};
 ghost use Rattle.stx_scenario.specs.declared.classes.TheConstants.{ERROR, RUNTIME_EXCEPTION};
 
 use crate::depth::rule_depth;
@@ -27,7 +27,7 @@ struct Match {
 
 /// What the rules decide where a class is thrown: the rule of least depth, the first of these where there are several;
 /// without a match `RuntimeException`, `Error` and all below them roll back. The tree is that of the scenario's classes.
-#[tactic(auto, unfolding(stx_model::specs::Rules::rolls_back))]
+#[tactic(auto, unfolding(stx_base::specs::Rules::rolls_back))]
 pub fn decide(
     tree: &ClassTree,
     scenario: &Scenario,

@@ -1,7 +1,7 @@
 // How deep a rule is for a thrown class: the steps up to the first class that it matches.
 ghost use Rattle.std.specs.Prelude.{◌≡◌, ◌<◌, ◌^◌, length};
-ghost use Rattle.stx_model.specs.Classes.{number_above, parent_of};
-ghost use Rattle.stx_model.specs.Rules.{has_part, matches, rule_depth};
+ghost use Rattle.stx_base.specs.Classes.{number_above, parent_of};
+ghost use Rattle.stx_base.specs.Rules.{has_part, matches, rule_depth};
 
 use stx_scenario::{ClassDecl, ClassNo, Name, Rule, RuleBy};
 

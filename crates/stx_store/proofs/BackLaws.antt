@@ -4,12 +4,12 @@ use Rattle.std.specs.Option.{unwrap_or}
 use Rattle.std.proofs.lemmas.List.{take_more}
 use Rattle.std.proofs.lemmas.List.Elements.{filter-append}
 use Rattle.std.proofs.lemmas.List.Sums.{fold-append}
-use Rattle.stx_model.specs.declared.history.Access.{Access}
-use Rattle.stx_model.specs.declared.history.StoreNote.{StoreNote}
-use Rattle.stx_model.specs.declared.history.StoreEntry.{StoreEntry}
-use Rattle.stx_model.specs.Histories.{store_notes}
-use Rattle.stx_model.specs.Stores.{work, works, is_busy, pointed, savepoints, gone_back, released}
-use Rattle.stx_model.proofs.HistoryLaws.{store_notes-push}
+use Rattle.stx_base.specs.declared.history.Access.{Access}
+use Rattle.stx_base.specs.declared.history.StoreNote.{StoreNote}
+use Rattle.stx_base.specs.declared.history.StoreEntry.{StoreEntry}
+use Rattle.stx_base.specs.Histories.{store_notes}
+use Rattle.stx_base.specs.Stores.{work, works, is_busy, pointed, savepoints, gone_back, released}
+use Rattle.stx_base.proofs.HistoryLaws.{store_notes-push}
 use Rattle.stx_store.specs.declared.rows.Trace.{Trace}
 use Rattle.stx_store.specs.Cells.{Cell, cell_applied, last_copied, rest_copied, cell_stepped, cell_worked, cell_after, written, value_or_level, back_at_access, back_at_return, back_at_release, back}
 

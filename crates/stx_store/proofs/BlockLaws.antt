@@ -4,11 +4,11 @@ use Rattle.std.specs.List.{list_any}
 use Rattle.std.proofs.lemmas.List.{take_more, take_all}
 use Rattle.std.proofs.lemmas.List.Elements.{filter-append}
 use Rattle.std.proofs.lemmas.List.Sums.{fold-append}
-use Rattle.stx_model.specs.declared.history.StoreNote.{StoreNote}
-use Rattle.stx_model.specs.declared.history.StoreEntry.{StoreEntry}
-use Rattle.stx_model.specs.Histories.{store_notes}
-use Rattle.stx_model.specs.Stores.{begun, ends, live, takes, conflicts, is_caller, least}
-use Rattle.stx_model.proofs.HistoryLaws.{store_notes-push, begun-push}
+use Rattle.stx_base.specs.declared.history.StoreNote.{StoreNote}
+use Rattle.stx_base.specs.declared.history.StoreEntry.{StoreEntry}
+use Rattle.stx_base.specs.Histories.{store_notes}
+use Rattle.stx_base.specs.Stores.{begun, ends, live, takes, conflicts, is_caller, least}
+use Rattle.stx_base.proofs.HistoryLaws.{store_notes-push, begun-push}
 use Rattle.stx_store.specs.Blocks.{blocks, blockers, lesser, found_with}
 
 -- a test of the notes, over the entries

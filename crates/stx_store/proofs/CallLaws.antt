@@ -1,12 +1,12 @@
 -- What a call that was answered leaves, for callers: the store stays legal, and only its client's notes grow.
 use Rattle.std.proofs.Common.{◌≡◌, ◌≢◌, ℕ, ◌<◌, IsTrue, [], ◌∷◌, ◌++◌, refl, sym, ap, ◌∙◌, subst}
-use Rattle.stx_model.specs.declared.call.Want.{Want}
-use Rattle.stx_model.specs.declared.history.StoreNote.{StoreNote}
-use Rattle.stx_model.specs.Histories.{store_notes_of}
-use Rattle.stx_model.specs.Stores.{store_proper}
-use Rattle.stx_model.specs.Legal.{StoreLegal}
-use Rattle.stx_model.proofs.HistoryLaws.{store_notes_of-push, store_notes_of-push_other}
-use Rattle.stx_model.proofs.LegalLaws.{StoreFits-reply, StoreLegal-push}
+use Rattle.stx_base.specs.declared.call.Want.{Want}
+use Rattle.stx_base.specs.declared.history.StoreNote.{StoreNote}
+use Rattle.stx_base.specs.Histories.{store_notes_of}
+use Rattle.stx_base.specs.Stores.{store_proper}
+use Rattle.stx_base.specs.Legal.{StoreLegal}
+use Rattle.stx_base.proofs.HistoryLaws.{store_notes_of-push, store_notes_of-push_other}
+use Rattle.stx_base.proofs.LegalLaws.{StoreFits-reply, StoreLegal-push}
 use Rattle.stx_store.specs.Store.{Store, Replies}
 use Rattle.stx_store.proofs.OwedLaws.{entry}
 

@@ -8,13 +8,13 @@ use Rattle.std.proofs.lemmas.Cmp.{nat_cmp_total}
 use Rattle.std.proofs.lemmas.List.{take_more}
 use Rattle.std.proofs.lemmas.List.Elements.{filter_map-append}
 use Rattle.std.proofs.lemmas.List.Sums.{fold-append}
-use Rattle.stx_model.specs.declared.history.Access.{Access}
-use Rattle.stx_model.specs.declared.history.Answer.{Answer}
-use Rattle.stx_model.specs.declared.history.StoreNote.{StoreNote}
-use Rattle.stx_model.specs.declared.history.StoreEntry.{StoreEntry}
-use Rattle.stx_model.specs.Alone.{RowMap, Alone, row_of, first_rows, applied, stepped, at_start, last_copy, without_last, after, finds, found_or_absent}
-use Rattle.stx_model.specs.Histories.{store_notes}
-use Rattle.stx_model.specs.Stores.{work, is_busy, conflicts, least, committed_note, committed_by, after_all, committed_rows, busy_or, access_answer, auto_answer}
+use Rattle.stx_base.specs.declared.history.Access.{Access}
+use Rattle.stx_base.specs.declared.history.Answer.{Answer}
+use Rattle.stx_base.specs.declared.history.StoreNote.{StoreNote}
+use Rattle.stx_base.specs.declared.history.StoreEntry.{StoreEntry}
+use Rattle.stx_base.specs.Alone.{RowMap, Alone, row_of, first_rows, applied, stepped, at_start, last_copy, without_last, after, finds, found_or_absent}
+use Rattle.stx_base.specs.Histories.{store_notes}
+use Rattle.stx_base.specs.Stores.{work, is_busy, conflicts, least, committed_note, committed_by, after_all, committed_rows, busy_or, access_answer, auto_answer}
 use Rattle.stx_store.specs.Cells.{Cell, cell_applied, last_copied, rest_copied, cell_stepped, cell_after, cell_committed, found_at}
 
 -- ---- one transaction's work

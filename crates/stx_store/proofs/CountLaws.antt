@@ -2,10 +2,10 @@
 use Rattle.std.proofs.Common.{◌≡◌, ℕ, suc, Bool, true, false, not, cond, List, [], ◌∷◌, Some, None, length, filter, filter_map, count_by, refl, sym, ap, ◌∙◌}
 use Rattle.std.specs.List.{cons_option}
 use Rattle.std.proofs.lemmas.List.Sums.{length-filter}
-use Rattle.stx_model.specs.declared.history.StoreNote.{StoreNote}
-use Rattle.stx_model.specs.declared.history.StoreEntry.{StoreEntry}
-use Rattle.stx_model.specs.Histories.{store_notes}
-use Rattle.stx_model.specs.Stores.{begun_by, begun, is_busy, Transaction, committed_note, committed_by, journal}
+use Rattle.stx_base.specs.declared.history.StoreNote.{StoreNote}
+use Rattle.stx_base.specs.declared.history.StoreEntry.{StoreEntry}
+use Rattle.stx_base.specs.Histories.{store_notes}
+use Rattle.stx_base.specs.Stores.{begun_by, begun, is_busy, Transaction, committed_note, committed_by, journal}
 use Rattle.stx_store.specs.Counts.{is_begin, is_committed}
 
 begun_one : (n : StoreNote) (e : StoreEntry) (kept : List StoreEntry) (ts : List ℕ) → length kept ≡ length ts → length (cond (is_begin n) (e ∷ kept) kept) ≡ length (cons_option (begun_by n) ts)

@@ -1,14 +1,14 @@
 -- Each call's entry fits after those before it, and the store keeps room for what it owes.
 use Rattle.std.proofs.Common.{◌≡◌, ℕ, ℤ, ◌+◌, ◌^◌, ◌<◌, ◌≤◌, IsTrue, List, [], ◌∷◌, ◌++◌, Some, count_by, refl, sym, ap, ◌∙◌, subst, arith}
-use Rattle.stx_model.specs.declared.call.Want.{Want}
-use Rattle.stx_model.specs.declared.history.Access.{Access}
-use Rattle.stx_model.specs.declared.history.Answer.{Answer}
-use Rattle.stx_model.specs.declared.history.StoreNote.{StoreNote}
-use Rattle.stx_model.specs.declared.history.StoreEntry.{StoreEntry}
-use Rattle.stx_model.specs.Stores.{store_reply, access_answer, auto_answer}
-use Rattle.stx_model.specs.Legal.{StoreFits, StoreLegal}
-use Rattle.stx_model.proofs.LegalLaws.{StoreLegal-push}
-use Rattle.stx_model.proofs.StoreLaws.{unnamed, few_begun}
+use Rattle.stx_base.specs.declared.call.Want.{Want}
+use Rattle.stx_base.specs.declared.history.Access.{Access}
+use Rattle.stx_base.specs.declared.history.Answer.{Answer}
+use Rattle.stx_base.specs.declared.history.StoreNote.{StoreNote}
+use Rattle.stx_base.specs.declared.history.StoreEntry.{StoreEntry}
+use Rattle.stx_base.specs.Stores.{store_reply, access_answer, auto_answer}
+use Rattle.stx_base.specs.Legal.{StoreFits, StoreLegal}
+use Rattle.stx_base.proofs.LegalLaws.{StoreLegal-push}
+use Rattle.stx_base.proofs.StoreLaws.{unnamed, few_begun}
 use Rattle.stx_store.specs.Store.{Store}
 use Rattle.stx_store.specs.Counts.{is_begin, is_committed}
 use Rattle.stx_store.specs.Owed.{added, was_owed, owed_all, IsKept}

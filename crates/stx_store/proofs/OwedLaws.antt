@@ -2,14 +2,14 @@
 use Rattle.std.proofs.Common.{IsTrue, ℤ, ◌≡◌, ◌≢◌, ℕ, suc, ◌+◌, ◌<◌, ◌≤◌, Bool, true, false, not, ◌&&◌, ◌||◌, cond, List, [], ◌∷◌, ◌++◌, length, refl, sym, ap, ◌∙◌, subst, Some, arith, eq-eqb, ne_eqb, eqb-true}
 use Rattle.std.specs.List.{list_any}
 use Rattle.std.proofs.lemmas.Bool.{false≢true, and_parts}
-use Rattle.stx_model.specs.declared.history.StoreNote.{StoreNote}
-use Rattle.stx_model.specs.declared.history.StoreEntry.{StoreEntry}
-use Rattle.stx_model.specs.Histories.{store_notes, store_notes_of, has_room}
-use Rattle.stx_model.specs.Pools.{contains}
-use Rattle.stx_model.specs.Stores.{store_reply, store_want, store_proper, begun, ends, is_live, pointed, savepoints, gone_back, released, can_go_back, is_pointed}
-use Rattle.stx_model.specs.Legal.{StoreFits}
-use Rattle.stx_model.proofs.HistoryLaws.{or-false, total, total-same, total-at, is_live-parts, is_live-push, savepoints-push, store_notes_of-push, store_notes_of-push_other, none_of}
-use Rattle.stx_model.proofs.StoreLaws.{names, lives, begin_number, begun_length-push, is_live_none, is_live-push_other, savepoints_none, savepoints-push_other, Unnamed, live_below}
+use Rattle.stx_base.specs.declared.history.StoreNote.{StoreNote}
+use Rattle.stx_base.specs.declared.history.StoreEntry.{StoreEntry}
+use Rattle.stx_base.specs.Histories.{store_notes, store_notes_of, has_room}
+use Rattle.stx_base.specs.Pools.{contains}
+use Rattle.stx_base.specs.Stores.{store_reply, store_want, store_proper, begun, ends, is_live, pointed, savepoints, gone_back, released, can_go_back, is_pointed}
+use Rattle.stx_base.specs.Legal.{StoreFits}
+use Rattle.stx_base.proofs.HistoryLaws.{or-false, total, total-same, total-at, is_live-parts, is_live-push, savepoints-push, store_notes_of-push, store_notes_of-push_other, none_of}
+use Rattle.stx_base.proofs.StoreLaws.{names, lives, begin_number, begun_length-push, is_live_none, is_live-push_other, savepoints_none, savepoints-push_other, Unnamed, live_below}
 use Rattle.stx_store.specs.Owed.{added, was_owed, costs, due, owed_to}
 
 abbrev pub entry : ℕ → StoreNote → StoreEntry

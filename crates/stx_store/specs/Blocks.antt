@@ -1,10 +1,10 @@
 -- Which transaction keeps a caller from a row, begin by begin.
 use Rattle.std.specs.Prelude.{ℕ, Bool, not, ◌&&◌, min, if◌then◌else◌, List, Option, Some, None}
 use Rattle.std.specs.List.{filter, list_any}
-use Rattle.stx_model.specs.declared.history.StoreNote.{StoreNote}
-use Rattle.stx_model.specs.declared.history.StoreEntry.{StoreEntry}
-use Rattle.stx_model.specs.Histories.{store_notes}
-use Rattle.stx_model.specs.Stores.{begun, ends, takes, is_caller}
+use Rattle.stx_base.specs.declared.history.StoreNote.{StoreNote}
+use Rattle.stx_base.specs.declared.history.StoreEntry.{StoreEntry}
+use Rattle.stx_base.specs.Histories.{store_notes}
+use Rattle.stx_base.specs.Stores.{begun, ends, takes, is_caller}
 
 -- the transaction hasn't ended, it took row k, and it isn't the caller
 abbrev pub blocks : List StoreNote → ℕ → Option ℕ → ℕ → Bool

@@ -1,11 +1,11 @@
 -- One row of a transaction's own map: its value, and its copies at the open savepoints.
 use Rattle.std.specs.Prelude.{ℕ, zero, suc, ◌+◌, ◌-◌, ℤ, not, ◌&&◌, ◌==◌, if◌then◌else◌, List, [], ◌∷◌, Option, Some, None}
 use Rattle.std.specs.List.{fold}
-use Rattle.stx_model.specs.declared.history.Access.{Access}
-use Rattle.stx_model.specs.declared.history.Answer.{Answer}
-use Rattle.stx_model.specs.declared.history.StoreNote.{StoreNote}
-use Rattle.stx_model.specs.Alone.{found_or_absent}
-use Rattle.stx_model.specs.Stores.{work, is_busy}
+use Rattle.stx_base.specs.declared.history.Access.{Access}
+use Rattle.stx_base.specs.declared.history.Answer.{Answer}
+use Rattle.stx_base.specs.declared.history.StoreNote.{StoreNote}
+use Rattle.stx_base.specs.Alone.{found_or_absent}
+use Rattle.stx_base.specs.Stores.{work, is_busy}
 use Rattle.stx_store.specs.declared.rows.Trace.{Trace}
 
 -- the row's value, if it is there, and those at the open savepoints, the innermost first

@@ -1,7 +1,7 @@
 -- Notes that count: begins for the numbers of transactions, commits for the places in the journal.
 use Rattle.std.specs.Prelude.{Bool, true, false, not}
-use Rattle.stx_model.specs.declared.history.StoreNote.{StoreNote}
-use Rattle.stx_model.specs.Stores.{is_busy}
+use Rattle.stx_base.specs.declared.history.StoreNote.{StoreNote}
+use Rattle.stx_base.specs.Stores.{is_busy}
 
 -- a begin
 abbrev pub is_begin : StoreNote → Bool

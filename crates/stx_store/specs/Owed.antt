@@ -1,10 +1,10 @@
 -- How many entries the store owes to calls that can't fail: the ends of what has begun.
 use Rattle.std.specs.Prelude.{ℕ, suc, ℤ, ◌+◌, ◌≤◌, Bool, true, false, if◌then◌else◌, List, [], ◌∷◌, length}
-use Rattle.stx_model.specs.declared.history.StoreNote.{StoreNote}
-use Rattle.stx_model.specs.declared.history.StoreEntry.{StoreEntry}
-use Rattle.stx_model.specs.Histories.{store_notes, store_notes_of, total}
-use Rattle.stx_model.specs.Stores.{begun, is_live, savepoints}
-use Rattle.stx_model.specs.Legal.{StoreLegal}
+use Rattle.stx_base.specs.declared.history.StoreNote.{StoreNote}
+use Rattle.stx_base.specs.declared.history.StoreEntry.{StoreEntry}
+use Rattle.stx_base.specs.Histories.{store_notes, store_notes_of, total}
+use Rattle.stx_base.specs.Stores.{begun, is_live, savepoints}
+use Rattle.stx_base.specs.Legal.{StoreLegal}
 
 -- a savepoint may be gone back to once and released
 abbrev pub costs : List Bool → ℕ

@@ -1,12 +1,12 @@
 // What an access is answered.
 ghost use Rattle.std.specs.Prelude.{◌≡◌};
-ghost use Rattle.stx_model.specs.Histories.{store_notes};
-ghost use Rattle.stx_model.specs.Stores.{access_answer, auto_answer};
+ghost use Rattle.stx_base.specs.Histories.{store_notes};
+ghost use Rattle.stx_base.specs.Stores.{access_answer, auto_answer};
 ghost use Rattle.stx_store.specs.Cells.{found_at};
 
 use crate::locks::{blocker, row_named};
 use crate::rows::{row_after, value_after};
-use stx_model::{Access, Answer, StoreEntry};
+use stx_base::{Access, Answer, StoreEntry};
 use stx_scenario::List;
 
 /// An access of a transaction sees the committed rows and the transaction's own work.

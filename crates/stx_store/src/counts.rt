@@ -3,7 +3,7 @@ ghost use Rattle.std.specs.Prelude.{◌≡◌, count_by};
 ghost use Rattle.stx_store.specs.Counts.{is_begin, is_committed};
 
 use crate::locks::answered_busy;
-use stx_model::{StoreEntry, StoreNote};
+use stx_base::{StoreEntry, StoreNote};
 
 pub(crate) fn begins(entries: &[StoreEntry]) -> usize
     ensures { result ≡ count_by (λ e. is_begin e.note) entries.now }

@@ -1,12 +1,12 @@
 // Which transaction keeps a caller from a row.
 ghost use Rattle.std.specs.Prelude.{◌≡◌};
 ghost use Rattle.std.specs.List.{list_any};
-ghost use Rattle.stx_model.specs.Histories.{store_notes};
-ghost use Rattle.stx_model.specs.Stores.{is_busy, ends, takes, least, conflicts};
-ghost use Rattle.stx_model.specs.Alone.{row_of};
+ghost use Rattle.stx_base.specs.Histories.{store_notes};
+ghost use Rattle.stx_base.specs.Stores.{is_busy, ends, takes, least, conflicts};
+ghost use Rattle.stx_base.specs.Alone.{row_of};
 ghost use Rattle.stx_store.specs.Blocks.{blocks, lesser, found_with};
 
-use stx_model::{Access, Answer, StoreEntry, StoreNote};
+use stx_base::{Access, Answer, StoreEntry, StoreNote};
 use stx_scenario::RowNo;
 
 /// The least live transaction that holds the row and isn't the caller.

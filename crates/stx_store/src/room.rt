@@ -2,7 +2,7 @@
 ghost use Rattle.std.specs.Prelude.{◌≡◌, ◌+◌, ◌≤◌, IfOk, vec_len, vec_capacity};
 ghost use Rattle.stx_store.specs.Owed.{added};
 
-use stx_model::{StoreEntry, StoreNote};
+use stx_base::{StoreEntry, StoreNote};
 use stx_scenario::NoMemory;
 
 /// Makes room for one entry, and for `more` entries than were owed, whose number it gives.

@@ -1,12 +1,12 @@
 // The value of one row: after all commits, and after a transaction's own work.
 ghost use Rattle.std.specs.Prelude.{◌≡◌, ◌+◌, ◌<◌, ◌^◌, length};
 ghost use Rattle.std.specs.FinMap.{get};
-ghost use Rattle.stx_model.specs.Histories.{store_notes};
-ghost use Rattle.stx_model.specs.Stores.{committed_rows, work, savepoints};
+ghost use Rattle.stx_base.specs.Histories.{store_notes};
+ghost use Rattle.stx_base.specs.Stores.{committed_rows, work, savepoints};
 ghost use Rattle.stx_store.specs.Cells.{cell_applied, cell_after, cell_committed, written, back, deeper};
 
 use crate::locks::answered_busy;
-use stx_model::{Access, StoreEntry, StoreNote};
+use stx_base::{Access, StoreEntry, StoreNote};
 use stx_scenario::{List, RowNo};
 
 /// The value of a row after all commits, if the row is there.

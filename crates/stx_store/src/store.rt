@@ -1,8 +1,8 @@
 // The store itself: its entries, and the calls.
 ghost use Rattle.std.specs.Prelude.{◌≡◌, ◌<◌, IfOk, OnOk, OnErr, IsTrue, []};
-ghost use Rattle.stx_model.specs.Histories.{store_notes_of};
-ghost use Rattle.stx_model.specs.Stores.{store_proper};
-ghost use Rattle.stx_model.specs.Legal.{StoreFits};
+ghost use Rattle.stx_base.specs.Histories.{store_notes_of};
+ghost use Rattle.stx_base.specs.Stores.{store_proper};
+ghost use Rattle.stx_base.specs.Legal.{StoreFits};
 ghost use Rattle.stx_store.specs.Store.{Store, Replies, with_entry};
 ghost use Rattle.stx_store.specs.Owed.{was_owed};
 
@@ -11,7 +11,7 @@ use crate::counts::{begins, commits};
 use crate::room::{room_added, room_for};
 use std::alloc::Global;
 use std::marker::Model;
-use stx_model::{Access, Answer, Session, StoreEntry, StoreNote, Want};
+use stx_base::{Access, Answer, Session, StoreEntry, StoreNote, Want};
 use stx_scenario::{List, NoMemory};
 
 /// A store of rows, seen as the first values and the entries of all calls so far.

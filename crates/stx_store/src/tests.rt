@@ -1,7 +1,7 @@
 // Runs of the store with ample memory.
 use super::*;
 use std::test::Fail;
-use stx_model::{Access, Answer, StoreEntry, StoreNote};
+use stx_base::{Access, Answer, StoreEntry, StoreNote};
 use stx_scenario::{List, RowNo};
 
 const STOCK: RowNo = RowNo(0);
@@ -9,7 +9,7 @@ const STOCK: RowNo = RowNo(0);
 const OTHER: RowNo = RowNo(1);
 
 #[test]
-#[tactic(auto, unfolding(stx_model::specs::Stores::store_proper, stx_model::specs::Stores::store_reply))]
+#[tactic(auto, unfolding(stx_base::specs::Stores::store_proper, stx_base::specs::Stores::store_reply))]
 fn a_statement_is_busy_until_the_commit(rt: HostRuntime) -> Result<(), Fail> {
     let alloc = rt.alloc();
     let values = List::from_vec(vec![in alloc; 7]?);
@@ -34,7 +34,7 @@ fn a_statement_is_busy_until_the_commit(rt: HostRuntime) -> Result<(), Fail> {
 }
 
 #[test]
-#[tactic(auto, unfolding(stx_model::specs::Stores::store_proper, stx_model::specs::Stores::store_reply))]
+#[tactic(auto, unfolding(stx_base::specs::Stores::store_proper, stx_base::specs::Stores::store_reply))]
 fn a_return_to_a_savepoint_keeps_its_locks(rt: HostRuntime) -> Result<(), Fail> {
     let alloc = rt.alloc();
     let values = List::new(alloc);
@@ -81,7 +81,7 @@ fn kept_locks() -> [StoreEntry; 10] {
 }
 
 #[test]
-#[tactic(auto, unfolding(stx_model::specs::Stores::store_proper, stx_model::specs::Stores::store_reply))]
+#[tactic(auto, unfolding(stx_base::specs::Stores::store_proper, stx_base::specs::Stores::store_reply))]
 fn each_savepoint_gives_back_its_own_values(rt: HostRuntime) -> Result<(), Fail> {
     let alloc = rt.alloc();
     let values = List::new(alloc);
@@ -118,7 +118,7 @@ fn each_savepoint_gives_back_its_own_values(rt: HostRuntime) -> Result<(), Fail>
 }
 
 #[test]
-#[tactic(auto, unfolding(stx_model::specs::Stores::store_proper, stx_model::specs::Stores::store_reply))]
+#[tactic(auto, unfolding(stx_base::specs::Stores::store_proper, stx_base::specs::Stores::store_reply))]
 fn a_rolled_back_rival_leaves_no_value_and_no_lock(rt: HostRuntime) -> Result<(), Fail> {
     let alloc = rt.alloc();
     let values = List::from_vec(vec![in alloc; 7]?);
@@ -144,7 +144,7 @@ fn a_rolled_back_rival_leaves_no_value_and_no_lock(rt: HostRuntime) -> Result<()
 }
 
 #[test]
-#[tactic(auto, unfolding(stx_model::specs::Stores::store_proper, stx_model::specs::Stores::store_reply))]
+#[tactic(auto, unfolding(stx_base::specs::Stores::store_proper, stx_base::specs::Stores::store_reply))]
 fn own_statements_commit_at_once(rt: HostRuntime) -> Result<(), Fail> {
     let alloc = rt.alloc();
     let values = List::new(alloc);
@@ -164,7 +164,7 @@ fn own_statements_commit_at_once(rt: HostRuntime) -> Result<(), Fail> {
 }
 
 #[test]
-#[tactic(auto, unfolding(stx_model::specs::Stores::store_proper, stx_model::specs::Stores::store_reply))]
+#[tactic(auto, unfolding(stx_base::specs::Stores::store_proper, stx_base::specs::Stores::store_reply))]
 fn a_read_locks_a_row_that_is_absent(rt: HostRuntime) -> Result<(), Fail> {
     let alloc = rt.alloc();
     let values = List::new(alloc);
@@ -191,7 +191,7 @@ fn a_read_locks_a_row_that_is_absent(rt: HostRuntime) -> Result<(), Fail> {
 }
 
 #[test]
-#[tactic(auto, unfolding(stx_model::specs::Stores::store_proper, stx_model::specs::Stores::store_reply))]
+#[tactic(auto, unfolding(stx_base::specs::Stores::store_proper, stx_base::specs::Stores::store_reply))]
 fn an_erased_row_is_absent(rt: HostRuntime) -> Result<(), Fail> {
     let alloc = rt.alloc();
     let values = List::from_vec(vec![in alloc; 7]?);
@@ -222,7 +222,7 @@ fn an_erased_row_is_absent(rt: HostRuntime) -> Result<(), Fail> {
 }
 
 #[test]
-#[tactic(auto, unfolding(stx_model::specs::Stores::store_proper, stx_model::specs::Stores::store_reply))]
+#[tactic(auto, unfolding(stx_base::specs::Stores::store_proper, stx_base::specs::Stores::store_reply))]
 fn commits_and_own_statements_are_numbered_in_one_row(rt: HostRuntime) -> Result<(), Fail> {
     let alloc = rt.alloc();
     let values = List::new(alloc);

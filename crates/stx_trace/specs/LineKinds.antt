@@ -1,8 +1,8 @@
 -- What lines are of, as the code tells them apart.
 use Rattle.std.specs.Prelude.{Bool, true, false}
 use Rattle.stx_trace.specs.declared.history.History.{History}
-use Rattle.stx_model.specs.declared.line.Line.{Line}
-use Rattle.stx_model.specs.Lines.{Shared, OfPool, OfStore, OfNeither}
+use Rattle.stx_base.specs.declared.line.Line.{Line}
+use Rattle.stx_base.specs.Lines.{Shared, OfPool, OfStore, OfNeither}
 
 -- the history that a line has its place in
 abbrev pub shared_of : History → Shared

@@ -1,9 +1,9 @@
 // Whose history a line has its place in.
 ghost use Rattle.std.specs.Prelude.{◌≡◌};
-ghost use Rattle.stx_model.specs.Lines as texts;
+ghost use Rattle.stx_base.specs.Lines as texts;
 ghost use Rattle.stx_trace.specs.LineKinds.{shared_of};
 
-use stx_model::Line;
+use stx_base::Line;
 
 /// The history that holds the entry of a line's call.
 #[derive(Clone, Copy)]

@@ -1,8 +1,8 @@
 // The text of a line: its words, its place where it has one, and a line feed.
 ghost use Rattle.std.specs.Prelude.{◌≡◌, ◌≢◌, ◌++◌, true, IfOk, OnOk, OnErr, codes, string_bytes};
 ghost use Rattle.std.specs.Fmt.{decimal, signed_decimal};
-ghost use Rattle.stx_model.specs.Lines as texts;
-ghost use Rattle.stx_model.specs.Lines.{OfNeither};
+ghost use Rattle.stx_base.specs.Lines as texts;
+ghost use Rattle.stx_base.specs.Lines.{OfNeither};
 ghost use Rattle.stx_trace.specs.LineKinds.{shared_of, is_of_callback};
 
 use crate::history::History;
@@ -11,7 +11,7 @@ use crate::words::{
     completion_word, decision_word, ending_word, kind_word, propagation_word, where_set,
 };
 use std::alloc::Global;
-use stx_model::{Access, Answer, Kind, Label, Line};
+use stx_base::{Access, Answer, Kind, Label, Line};
 use stx_scenario::{ClassNo, MethodNo, NoMemory, Propagation, Scenario};
 
 /// Appends the text of a line: its words, the place of its entry where it is of a shared call, and a line feed.
@@ -57,7 +57,7 @@ fn line_words(alloc: Global, line: &Line, scenario: &Scenario) -> Result<String,
 }
 
 /// The words of a line of a call on the pool or the store.
-#[tactic(auto, unfolding(stx_model::specs::Lines::line_words))]
+#[tactic(auto, unfolding(stx_base::specs::Lines::line_words))]
 fn shared_words(alloc: Global, line: &Line, scenario: &Scenario) -> Result<String, NoMemory>
     requires { texts.shared_by line.now ≢ OfNeither }
     ensures { IfOk result (λ text. string_bytes text ≡ texts.line_words scenario.now line.now) }
@@ -78,7 +78,7 @@ fn shared_words(alloc: Global, line: &Line, scenario: &Scenario) -> Result<Strin
 }
 
 /// The words of a line of the client's own.
-#[tactic(auto, unfolding(stx_model::specs::Lines::line_words))]
+#[tactic(auto, unfolding(stx_base::specs::Lines::line_words))]
 fn own_words(alloc: Global, line: &Line, scenario: &Scenario) -> Result<String, NoMemory>
     requires { texts.shared_by line.now ≡ OfNeither }
     ensures { IfOk result (λ text. string_bytes text ≡ texts.line_words scenario.now line.now) }
@@ -109,7 +109,7 @@ fn own_words(alloc: Global, line: &Line, scenario: &Scenario) -> Result<String, 
 }
 
 /// The words of a line of a registration or an event, or of a callback.
-#[tactic(auto, unfolding(stx_model::specs::Lines::line_words))]
+#[tactic(auto, unfolding(stx_base::specs::Lines::line_words))]
 fn callback_words(alloc: Global, line: &Line, scenario: &Scenario) -> Result<String, NoMemory>
     requires { is_of_callback line.now ≡ true }
     ensures { IfOk result (λ text. string_bytes text ≡ texts.line_words scenario.now line.now) }
@@ -164,7 +164,7 @@ fn labelled(
     named(alloc, verb, label_name(scenario, label))
 }
 
-#[tactic(auto, unfolding(stx_model::specs::Lines::line_words))]
+#[tactic(auto, unfolding(stx_base::specs::Lines::line_words))]
 fn call_words(
     alloc: Global,
     method: MethodNo,
@@ -181,7 +181,7 @@ fn call_words(
     Ok(format!(in alloc; "call {name} {propagation}{read_only}")?)
 }
 
-#[tactic(auto, unfolding(stx_model::specs::Lines::line_words))]
+#[tactic(auto, unfolding(stx_base::specs::Lines::line_words))]
 fn plain_words(alloc: Global, method: MethodNo, scenario: &Scenario) -> Result<String, NoMemory>
     ensures { IfOk result
         (λ text. string_bytes text ≡ texts.line_words scenario.now (Line.Plain method)) }
@@ -190,7 +190,7 @@ fn plain_words(alloc: Global, method: MethodNo, scenario: &Scenario) -> Result<S
     Ok(format!(in alloc; "call {name} plain")?)
 }
 
-#[tactic(auto, unfolding(stx_model::specs::Lines::line_words))]
+#[tactic(auto, unfolding(stx_base::specs::Lines::line_words))]
 fn this_words(alloc: Global, method: MethodNo, scenario: &Scenario) -> Result<String, NoMemory>
     ensures { IfOk result
         (λ text. string_bytes text ≡ texts.line_words scenario.now (Line.This method)) }
@@ -199,7 +199,7 @@ fn this_words(alloc: Global, method: MethodNo, scenario: &Scenario) -> Result<St
     Ok(format!(in alloc; "this {name}")?)
 }
 
-#[tactic(auto, unfolding(stx_model::specs::Lines::line_words))]
+#[tactic(auto, unfolding(stx_base::specs::Lines::line_words))]
 fn leave_words(
     alloc: Global,
     method: MethodNo,
@@ -239,7 +239,7 @@ fn opened_words(alloc: Global, kind: Kind, owns: bool) -> Result<String, NoMemor
     Ok(format!(in alloc; "open {kind}{sync}")?)
 }
 
-#[tactic(auto, unfolding(stx_model::specs::Lines::line_words))]
+#[tactic(auto, unfolding(stx_base::specs::Lines::line_words))]
 fn completion_words(
     alloc: Global,
     label: Label,

@@ -1,9 +1,9 @@
 // The names that lines print, looked up by number; where nothing has the number the name is empty.
 ghost use Rattle.std.specs.Prelude.{◌≡◌, IfOk, string_bytes};
-ghost use Rattle.stx_model.specs.Lines as texts;
+ghost use Rattle.stx_base.specs.Lines as texts;
 
 use std::alloc::Global;
-use stx_model::Label;
+use stx_base::Label;
 use stx_scenario::{
     BeanNo, ClassNo, EventNo, ListenerNo, MethodNo, NoMemory, RowNo, Scenario, SyncNo,
 };

@@ -2,7 +2,7 @@
 use super::{method_name, push_line};
 use std::alloc::Global;
 use std::test::Fail;
-use stx_model::{Access, Answer, Ending, Kind, Label, Line};
+use stx_base::{Access, Answer, Ending, Kind, Label, Line};
 use stx_scenario::{
     ARITHMETIC_EXCEPTION, Bean, BeanNo, EventNo, List, Listener, ListenerNo, Method, MethodNo,
     Name, NoMemory, Phase, Propagation, RowNo, Scenario, Settings, SyncDecl, SyncMode, SyncNo,

@@ -1,8 +1,8 @@
 // The words that stand for the choices of a line.
 ghost use Rattle.std.specs.Prelude.{◌≡◌};
-ghost use Rattle.stx_model.specs.Lines as texts;
+ghost use Rattle.stx_base.specs.Lines as texts;
 
-use stx_model::{Ending, Kind};
+use stx_base::{Ending, Kind};
 use stx_scenario::Propagation;
 
 pub fn propagation_word(propagation: Propagation) -> &'static str

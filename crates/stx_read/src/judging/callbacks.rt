@@ -2,8 +2,8 @@
 ghost use Rattle.std.specs.Prelude.{◌≡◌, ◌<◌, ◌++◌, length, true, false, OnOk, IfOk, option_copied};
 ghost use Rattle.std.specs.List.{All};
 ghost use Rattle.std.specs.Option.{option_map_or};
-ghost use Rattle.stx_model.specs.Attributes.{attribute};
-ghost use Rattle.stx_model.specs.Classes.{parents_of};
+ghost use Rattle.stx_base.specs.Attributes.{attribute};
+ghost use Rattle.stx_base.specs.Classes.{parents_of};
 ghost use Rattle.stx_read.specs.Faults.{under as path_under, each_from};
 ghost use Rattle.stx_read.specs.Judge.{names_known, allowed_before_commit, allowed_around, allowed_in, disallowed, sync_callback_faults, listener_callback_faults, callback_faults, is_new};
 ghost use Rattle.stx_read.specs.Order.{AreKnown, SyncInOrder, ListenerInOrder, PlacesInOrder};

@@ -1,6 +1,6 @@
 // The call graph, or why there is none.
 ghost use Rattle.std.specs.Prelude.{◌≡◌, IfOk};
-ghost use Rattle.stx_model.specs.Weight.{InRange};
+ghost use Rattle.stx_base.specs.Weight.{InRange};
 ghost use Rattle.stx_read.specs.Stages.{call_refusal};
 
 use crate::fault::ReadFault;

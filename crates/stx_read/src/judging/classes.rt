@@ -1,8 +1,8 @@
 // The tree of the classes, or why they make none.
 ghost use Rattle.std.specs.Prelude.{◌≡◌, length, take, Some, IfOk, MatchResult};
 ghost use Rattle.stx_scenario.specs.BuiltIn.{built_in};
-ghost use Rattle.stx_model.specs.Classes.{parents_of};
-ghost use Rattle.stx_model.specs.Classes.{IsTree};
+ghost use Rattle.stx_base.specs.Classes.{parents_of};
+ghost use Rattle.stx_base.specs.Classes.{IsTree};
 ghost use Rattle.stx_read.specs.Order.{PlacesInOrder};
 ghost use Rattle.stx_read.specs.Stages.{class_refusal};
 

@@ -1,6 +1,6 @@
 // The texts of names by number, as refusals give them.
 ghost use Rattle.std.specs.Prelude.{◌≡◌, ◌<◌, length, IfOk};
-ghost use Rattle.stx_model.specs.Lines.{bean_name, class_name, method_name};
+ghost use Rattle.stx_base.specs.Lines.{bean_name, class_name, method_name};
 
 use crate::fault::Argument;
 use std::alloc::Global;

@@ -1,5 +1,5 @@
 use Rattle.std.proofs.Common.{length, sym, ◌∙◌}
-use Rattle.stx_model.specs.Classes.{is_own_ancestor}
+use Rattle.stx_base.specs.Classes.{is_own_ancestor}
 use Rattle.stx_classes.proofs.SearchLaws.{not_here}
 use Rattle.stx_classes.proofs.steps.first_own_ancestor.Goals as goal
 

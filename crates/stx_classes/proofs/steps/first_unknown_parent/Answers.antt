@@ -1,5 +1,5 @@
 use Rattle.std.proofs.Common.{length, sym, ◌∙◌}
-use Rattle.stx_model.specs.Classes.{has_unknown_parent}
+use Rattle.stx_base.specs.Classes.{has_unknown_parent}
 use Rattle.stx_classes.proofs.SearchLaws.{not_here}
 use Rattle.stx_classes.proofs.steps.first_unknown_parent.Goals as goal
 

@@ -1,6 +1,6 @@
 -- The steps are those made so far and those from here on.
 use Rattle.std.proofs.Common.{◌≡◌, ◌-◌, ◌==◌, length}
-use Rattle.stx_model.specs.Classes.{bounded_steps_in, depth_in}
+use Rattle.stx_base.specs.Classes.{bounded_steps_in, depth_in}
 use Rattle.stx_classes.proofs.StepLaws.{more_by}
 use Rattle.stx_classes.proofs.steps.steps_between.Given as goal
 

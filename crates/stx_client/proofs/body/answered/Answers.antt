@@ -1,7 +1,7 @@
 -- The sum is a value, and is written.
 use Rattle.std.proofs.Common.{rules, ◌≡◌, ◌∙◌, Some, refl, sym, ap, subst, FitsSigned, w64}
 use Rattle.std.proofs.Math.Facts.{to_z-of_z}
-use Rattle.stx_model.specs.declared.history.Access.{Access}
+use Rattle.stx_base.specs.declared.history.Access.{Access}
 use Rattle.stx_model.specs.Script.{value_of}
 use Rattle.stx_client.specs.declared.stage.Stage.{Stage}
 use Rattle.stx_client.specs.declared.stage.Then.{Then}

@@ -1,7 +1,7 @@
 -- Each note of the pool, at the stage that wants it.
 use Rattle.std.proofs.Common.{◌∙◌, ◌++◌, ◌∷◌, [], ap}
 use Rattle.stx_scenario.specs.declared.classes.TheConstants.{CANNOT_CREATE_TRANSACTION_EXCEPTION}
-use Rattle.stx_model.specs.declared.line.Line.{Line}
+use Rattle.stx_base.specs.declared.line.Line.{Line}
 use Rattle.stx_client.proofs.TurnLaws.{hears_taken, hears_empty, hears_given}
 use Rattle.stx_client.proofs.turns.hear_pool.Goals as goal
 

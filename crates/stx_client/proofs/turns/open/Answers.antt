@@ -1,7 +1,7 @@
 -- The scope opens, and its body begins.
 use Rattle.std.proofs.Common.{◌∙◌, ◌++◌, ◌∷◌, [], sym, ap}
-use Rattle.stx_model.specs.declared.line.Line.{Line}
-use Rattle.stx_model.specs.declared.manager.Kind.{Kind}
+use Rattle.stx_base.specs.declared.line.Line.{Line}
+use Rattle.stx_base.specs.declared.manager.Kind.{Kind}
 use Rattle.stx_model.specs.Script.{opened}
 use Rattle.stx_client.specs.Machine.{state, scope_context, goes_on}
 use Rattle.stx_client.proofs.turns.open.Goals as goal

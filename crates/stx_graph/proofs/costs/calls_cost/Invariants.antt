@@ -1,5 +1,5 @@
 use Rattle.std.proofs.Common.{◌≡◌, fold, take}
-use Rattle.stx_model.specs.Weight.{nothing}
+use Rattle.stx_base.specs.Weight.{nothing}
 use Rattle.stx_graph.specs.Costs.{added, cost_at}
 use Rattle.stx_graph.proofs.costs.calls_cost.Given as goal
 

@@ -1,5 +1,5 @@
 use Rattle.std.proofs.Common.{◌≡◌, ◌==◌, cond, fold, take}
-use Rattle.stx_model.specs.Weight.{nothing, listener_cost}
+use Rattle.stx_base.specs.Weight.{nothing, listener_cost}
 use Rattle.stx_graph.specs.Costs.{added, capped, cost_at}
 use Rattle.stx_graph.proofs.costs.event_cost.Given as goal
 

@@ -1,5 +1,5 @@
 use Rattle.std.proofs.Common.{length}
-use Rattle.stx_model.specs.Weight.{leads}
+use Rattle.stx_base.specs.Weight.{leads}
 use Rattle.stx_graph.specs.Rows.{AreRows}
 use Rattle.stx_graph.proofs.rows.method_rows.Given as goal
 

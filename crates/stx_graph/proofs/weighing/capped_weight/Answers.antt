@@ -1,7 +1,7 @@
 use Rattle.std.proofs.Common.{◌<◌, List, length, map, get_or, ◌∙◌, ap, arith}
 use Rattle.stx_scenario.specs.declared.numbers.MethodNo.{MethodNo}
-use Rattle.stx_model.specs.declared.cost.Cost.{Cost}
-use Rattle.stx_model.specs.Weight.{total, MethodsInRange}
+use Rattle.stx_base.specs.declared.cost.Cost.{Cost}
+use Rattle.stx_base.specs.Weight.{total, MethodsInRange}
 use Rattle.stx_graph.specs.Costs.{capped, cost_at}
 use Rattle.stx_graph.proofs.RowLaws.{item_keeps}
 use Rattle.stx_graph.proofs.WeighLaws.{client_turn}

@@ -1,5 +1,5 @@
 use Rattle.std.proofs.Common.{◌≡◌, map, take}
-use Rattle.stx_model.specs.Weight.{body_cost}
+use Rattle.stx_base.specs.Weight.{body_cost}
 use Rattle.stx_graph.specs.Costs.{capped, cost_at}
 use Rattle.stx_graph.proofs.weighing.next_round.Given as goal
 

@@ -1,5 +1,5 @@
 use Rattle.std.proofs.Common.{length, subst, sym}
-use Rattle.stx_model.specs.Weight.{SyncInRange}
+use Rattle.stx_base.specs.Weight.{SyncInRange}
 use Rattle.stx_graph.proofs.RowLaws.{item_keeps}
 use Rattle.stx_graph.proofs.weighing.sync_costs.Goals as goal
 

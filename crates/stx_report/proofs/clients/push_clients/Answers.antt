@@ -1,6 +1,6 @@
 -- One client more, and none left.
 use Rattle.std.proofs.Common.{◌<◌, length, ◌++◌, ◌∙◌, ap, arith}
-use Rattle.stx_model.specs.Report.{clients_text, pool_places, store_places}
+use Rattle.stx_base.specs.Report.{clients_text, pool_places, store_places}
 use Rattle.stx_report.specs.Places.{client_words}
 use Rattle.stx_report.proofs.PlaceLaws.{each_at}
 use Rattle.stx_report.proofs.TextLaws.{clients_step, clients_end}

@@ -1,6 +1,6 @@
 -- The text so far, and then that of the lines that are left, is the whole text.
 use Rattle.std.proofs.Common.{◌≡◌, ◌++◌, drop}
-use Rattle.stx_model.specs.Report.{lines_text}
+use Rattle.stx_base.specs.Report.{lines_text}
 use Rattle.stx_report.proofs.clients.push_lines.Given as goal
 
 abbrev pub invariant-loop-line : goal.invariant-loop-line

@@ -1,6 +1,6 @@
 -- One value more.
 use Rattle.std.proofs.Common.{◌<◌, length, sym, ◌∙◌, arith}
-use Rattle.stx_model.specs.Alone.{first_rows}
+use Rattle.stx_base.specs.Alone.{first_rows}
 use Rattle.stx_report.proofs.ValueLaws.{first_rows-at, values_next}
 use Rattle.stx_report.proofs.final_rows.first_values.Goals as goal
 

@@ -1,7 +1,7 @@
 -- What is kept of each transaction's work so far.
 use Rattle.std.proofs.Common.{◌≡◌, ℕ, take}
-use Rattle.stx_model.specs.Histories.{store_notes}
-use Rattle.stx_model.specs.Stores.{work}
+use Rattle.stx_base.specs.Histories.{store_notes}
+use Rattle.stx_base.specs.Stores.{work}
 use Rattle.stx_report.specs.Kept.{kept_of}
 use Rattle.stx_report.specs.KeptWorks.{kept_by}
 use Rattle.stx_report.proofs.final_rows.kept_works.Given as goal

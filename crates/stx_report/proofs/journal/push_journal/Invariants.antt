@@ -1,6 +1,6 @@
 -- The text so far, and then that of the entries that are left, is the whole text; and each commit is an entry.
 use Rattle.std.proofs.Common.{◌≡◌, ◌+◌, ◌≤◌, ◌++◌, drop}
-use Rattle.stx_model.specs.Report.{journal_text}
+use Rattle.stx_base.specs.Report.{journal_text}
 use Rattle.stx_report.proofs.journal.push_journal.Given as goal
 
 abbrev pub invariant-loop-index : goal.invariant-loop-index

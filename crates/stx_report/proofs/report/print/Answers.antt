@@ -1,7 +1,7 @@
 -- The parts in their order are the whole.
 use Rattle.std.proofs.Common.{◌++◌, ◌∙◌, ap, codes}
-use Rattle.stx_model.specs.Report.{journal_text, rows_text, by_name}
-use Rattle.stx_model.specs.Stores.{committed_rows}
+use Rattle.stx_base.specs.Report.{journal_text, rows_text, by_name}
+use Rattle.stx_base.specs.Stores.{committed_rows}
 use Rattle.stx_report.specs.RowValues.{values_from, found_rows}
 use Rattle.stx_report.proofs.TextLaws.{printed_from}
 use Rattle.stx_report.proofs.report.print.Goals as goal

@@ -1,6 +1,6 @@
 -- The text so far, and then that of the rows that are left, is the whole text.
 use Rattle.std.proofs.Common.{◌≡◌, ◌++◌, map}
-use Rattle.stx_model.specs.Report.{rows_text}
+use Rattle.stx_base.specs.Report.{rows_text}
 use Rattle.stx_report.proofs.rows.push_rows.Given as goal
 
 abbrev pub invariant-loop-name : goal.invariant-loop-name

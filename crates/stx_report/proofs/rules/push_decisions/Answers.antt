@@ -1,6 +1,6 @@
 -- One class more, and none left.
 use Rattle.std.proofs.Common.{◌++◌, ◌∙◌, ap}
-use Rattle.stx_model.specs.RulesText.{decision_text, class_numbered}
+use Rattle.stx_base.specs.RulesText.{decision_text, class_numbered}
 use Rattle.stx_report.proofs.RulesLaws.{below_more, line_is}
 use Rattle.stx_report.proofs.rules.push_decisions.Goals as goal
 

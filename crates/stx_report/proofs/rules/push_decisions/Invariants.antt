@@ -1,6 +1,6 @@
 -- The text so far is that before, and then the lines of the classes so far.
 use Rattle.std.proofs.Common.{◌≡◌, ◌++◌}
-use Rattle.stx_model.specs.RulesText.{decision_text, class_numbered}
+use Rattle.stx_base.specs.RulesText.{decision_text, class_numbered}
 use Rattle.stx_report.proofs.RulesLaws.{all_below}
 use Rattle.stx_report.proofs.rules.push_decisions.Given as goal
 

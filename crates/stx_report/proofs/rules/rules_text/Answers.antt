@@ -1,6 +1,6 @@
 -- One method more, and none left.
 use Rattle.std.proofs.Common.{[], arith}
-use Rattle.stx_model.specs.RulesText.{method_decisions, method_numbered}
+use Rattle.stx_base.specs.RulesText.{method_decisions, method_numbered}
 use Rattle.stx_report.proofs.RulesLaws.{below_more, all_methods}
 use Rattle.stx_report.proofs.rules.rules_text.Goals as goal
 

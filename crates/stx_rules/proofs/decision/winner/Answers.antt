@@ -1,6 +1,6 @@
 use Rattle.std.proofs.Common.{◌-◌, ◌+◌, ap, sym, subst, ◌∙◌, length, arith}
 use Rattle.std.specs.Option.{option_map}
-use Rattle.stx_model.specs.Rules.{rule_depth, winner}
+use Rattle.stx_base.specs.Rules.{rule_depth, winner}
 use Rattle.stx_rules.proofs.WinnerLaws.{none_searched, one_more, without_match, later_stays, earlier_wins, only_match, all_searched, IsBest}
 use Rattle.stx_rules.proofs.decision.winner.Goals as goal
 

@@ -1,6 +1,6 @@
 -- What is found is the first match of least depth among the rules that were searched.
 use Rattle.std.proofs.Common.{map, drop}
-use Rattle.stx_model.specs.Rules.{rule_depth}
+use Rattle.stx_base.specs.Rules.{rule_depth}
 use Rattle.stx_rules.proofs.WinnerLaws.{IsBest}
 use Rattle.stx_rules.proofs.decision.winner.Given as goal
 

@@ -1,6 +1,6 @@
 use Rattle.std.proofs.Common.{length, sym, ◌∙◌}
-use Rattle.stx_model.specs.Classes.{parents_of}
-use Rattle.stx_model.specs.Rules.{matches}
+use Rattle.stx_base.specs.Classes.{parents_of}
+use Rattle.stx_base.specs.Rules.{matches}
 use Rattle.stx_classes.proofs.StepLaws.{none_made, wanted_here, wanted_above, wanted_nowhere, walked_out}
 use Rattle.stx_rules.proofs.DepthLaws.{within_map, past_map}
 use Rattle.stx_rules.proofs.depth.rule_depth.Goals as goal

@@ -1,7 +1,7 @@
 -- The steps are those made so far and those from here on.
 use Rattle.std.proofs.Common.{◌≡◌, ◌-◌, length}
-use Rattle.stx_model.specs.Classes.{parents_of, bounded_steps_in}
-use Rattle.stx_model.specs.Rules.{matches, rule_depth}
+use Rattle.stx_base.specs.Classes.{parents_of, bounded_steps_in}
+use Rattle.stx_base.specs.Rules.{matches, rule_depth}
 use Rattle.stx_classes.proofs.StepLaws.{more_by}
 use Rattle.stx_rules.proofs.depth.rule_depth.Given as goal
 

@@ -1,6 +1,6 @@
 use Rattle.std.proofs.Common.{◌∙◌}
-use Rattle.stx_model.specs.Histories.{store_notes}
-use Rattle.stx_model.specs.declared.history.StoreNote.{StoreNote}
+use Rattle.stx_base.specs.Histories.{store_notes}
+use Rattle.stx_base.specs.declared.history.StoreNote.{StoreNote}
 use Rattle.stx_store.proofs.BlockLaws.{least-more, least-all}
 use Rattle.stx_store.proofs.locks.blocker.Goals as goal
 

@@ -1,6 +1,6 @@
 use Rattle.std.proofs.Common.{◌≡◌, take}
-use Rattle.stx_model.specs.Histories.{store_notes}
-use Rattle.stx_model.specs.Stores.{least}
+use Rattle.stx_base.specs.Histories.{store_notes}
+use Rattle.stx_base.specs.Stores.{least}
 use Rattle.stx_store.specs.Blocks.{blockers}
 use Rattle.stx_store.proofs.locks.blocker.Given as goal
 

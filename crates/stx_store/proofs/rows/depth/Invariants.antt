@@ -1,6 +1,6 @@
 use Rattle.std.proofs.Common.{◌≡◌, ◌≤◌, length, take}
-use Rattle.stx_model.specs.Histories.{store_notes}
-use Rattle.stx_model.specs.Stores.{savepoints}
+use Rattle.stx_base.specs.Histories.{store_notes}
+use Rattle.stx_base.specs.Stores.{savepoints}
 use Rattle.stx_store.proofs.rows.depth.Given as goal
 
 abbrev pub invariant-loop-entry : goal.invariant-loop-entry

@@ -1,6 +1,6 @@
 use Rattle.std.proofs.Common.{sym, ◌∙◌}
-use Rattle.stx_model.specs.Histories.{store_notes}
-use Rattle.stx_model.specs.declared.history.StoreNote.{StoreNote}
+use Rattle.stx_base.specs.Histories.{store_notes}
+use Rattle.stx_base.specs.declared.history.StoreNote.{StoreNote}
 use Rattle.stx_store.proofs.CellLaws.{first_rows-at, value-more}
 use Rattle.stx_store.proofs.rows.row_after.Goals as goal
 

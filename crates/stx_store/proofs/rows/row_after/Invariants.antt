@@ -1,5 +1,5 @@
 use Rattle.std.proofs.Common.{◌≡◌, take}
-use Rattle.stx_model.specs.Histories.{store_notes}
+use Rattle.stx_base.specs.Histories.{store_notes}
 use Rattle.stx_store.proofs.CellLaws.{value_so_far}
 use Rattle.stx_store.proofs.rows.row_after.Given as goal
 

@@ -1,6 +1,6 @@
 -- The label and the word, one after the other.
 use Rattle.std.proofs.Common.{append_assoc}
-use Rattle.stx_model.specs.Lines.{line_words}
+use Rattle.stx_base.specs.Lines.{line_words}
 use Rattle.stx_trace.proofs.lines.completion_words.Goals as goal
 
 pub returns : goal.returns

@@ -1,6 +1,6 @@
 -- A note of the pool more.
 use Rattle.std.proofs.Common.{◌≡◌, ◌∙◌, ◌++◌, ◌∷◌, [], false, true, sym, ap, arith}
-use Rattle.stx_model.specs.declared.call.Reply.{Reply}
+use Rattle.stx_base.specs.declared.call.Reply.{Reply}
 use Rattle.stx_client.specs.Holding.{has_failed, holds_connection, holds_session, with_taken}
 use Rattle.stx_client.proofs.ClientLaws.{RunsOn, going, out_is, not_failed, reads_now, starts_now, starts_with_pool, runs_with_pool}
 use Rattle.stx_client.proofs.client.Client.feed_pool.Goals as goal

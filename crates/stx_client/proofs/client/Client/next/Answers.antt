@@ -1,6 +1,6 @@
 -- The call is that of the stage's want, which is where the script stops.
 use Rattle.std.proofs.Common.{◌∙◌, sym, ap}
-use Rattle.stx_model.specs.declared.call.Want.{Want}
+use Rattle.stx_base.specs.declared.call.Want.{Want}
 use Rattle.stx_client.proofs.ClientLaws.{going, want_is, wants_one}
 use Rattle.stx_client.proofs.client.Client.next.Goals as goal
 

@@ -1,7 +1,7 @@
 -- A client is done where its script is.
 use Rattle.std.proofs.Common.{◌≡◌, ◌∙◌, ◌<◌, length, Some, refl, sym, ap, subst}
 use Rattle.std.proofs.lemmas.Bool.{false≢true}
-use Rattle.stx_model.specs.declared.call.Want.{Want}
+use Rattle.stx_base.specs.declared.call.Want.{Want}
 use Rattle.stx_model.specs.Played.{want_so_far}
 use Rattle.stx_play.specs.Playing.{turns_of}
 use Rattle.stx_play.proofs.PlayedLaws.{count, want_at}

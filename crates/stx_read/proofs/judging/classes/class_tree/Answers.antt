@@ -1,7 +1,7 @@
 use Rattle.std.proofs.Common.{◌∙◌, length, sym, arith}
 use Rattle.std.proofs.lemmas.List.{length-map}
 use Rattle.std.proofs.lemmas.Option.{none-some}
-use Rattle.stx_model.specs.Classes.{parents_of, is_own_ancestor, is_too_deep}
+use Rattle.stx_base.specs.Classes.{parents_of, is_own_ancestor, is_too_deep}
 use Rattle.stx_read.proofs.CountLaws.{few_classes}
 use Rattle.stx_read.proofs.ParentLaws.{parents_known}
 use Rattle.stx_read.proofs.SearchLaws.{found_within}

@@ -1,6 +1,6 @@
 use Rattle.std.proofs.Common.{List, ℕ, [], ◌++◌, ◌∙◌, codes, unwrap_or, append_assoc, sym, ap}
 use Rattle.std.specs.Option.{option_map}
-use Rattle.stx_model.specs.Lines.{bean_name, method_text}
+use Rattle.stx_base.specs.Lines.{bean_name, method_text}
 use Rattle.stx_read.proofs.judging.texts.method_name.Goals as goal
 
 pub returns : goal.returns

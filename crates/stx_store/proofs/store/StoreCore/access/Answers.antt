@@ -1,4 +1,4 @@
-use Rattle.stx_model.specs.Stores.{access_answer}
+use Rattle.stx_base.specs.Stores.{access_answer}
 use Rattle.stx_store.proofs.FitLaws.{access-reply, seen}
 use Rattle.stx_store.proofs.store.StoreCore.access.Goals as goal
 

@@ -1,4 +1,4 @@
-use Rattle.stx_model.specs.Stores.{auto_answer}
+use Rattle.stx_base.specs.Stores.{auto_answer}
 use Rattle.stx_store.proofs.FitLaws.{auto-reply, seen}
 use Rattle.stx_store.proofs.store.StoreCore.auto.Goals as goal
 

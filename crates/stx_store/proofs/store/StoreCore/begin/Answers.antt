@@ -1,5 +1,5 @@
 use Rattle.std.proofs.Common.{◌≡◌, ◌+◌, count_by, sym, ap, ◌∙◌, arith}
-use Rattle.stx_model.specs.declared.history.StoreNote.{StoreNote}
+use Rattle.stx_base.specs.declared.history.StoreNote.{StoreNote}
 use Rattle.stx_store.specs.Store.{with_entry}
 use Rattle.stx_store.specs.Counts.{is_begin}
 use Rattle.stx_store.proofs.FitLaws.{begin-reply, few_begins, seen}

@@ -1,6 +1,6 @@
 use Rattle.std.proofs.Common.{sym, ap, ◌∙◌, subst}
-use Rattle.stx_model.specs.declared.history.StoreNote.{StoreNote}
-use Rattle.stx_model.specs.Legal.{StoreFits}
+use Rattle.stx_base.specs.declared.history.StoreNote.{StoreNote}
+use Rattle.stx_base.specs.Legal.{StoreFits}
 use Rattle.stx_store.specs.Store.{with_entry}
 use Rattle.stx_store.proofs.OwedLaws.{entry}
 use Rattle.stx_store.proofs.FitLaws.{rollback-reply}

@@ -1,10 +1,10 @@
 -- The pool: which connections are out, and what it replies. (Spring: DataSourceUtils over a bounded DataSource.)
 use Rattle.std.specs.Prelude.{ℕ, zero, suc, ◌+◌, Bool, false, not, ◌&&◌, ◌==◌, if◌then◌else◌, List, [], ◌∷◌, Option, Some, None}
 use Rattle.std.specs.List.{filter, list_any, fold}
-use Rattle.stx_model.specs.declared.call.Want.{Want}
-use Rattle.stx_model.specs.declared.history.PoolNote.{PoolNote}
-use Rattle.stx_model.specs.declared.history.PoolEntry.{PoolEntry}
-use Rattle.stx_model.specs.Histories.{pool_notes, has_room}
+use Rattle.stx_base.specs.declared.call.Want.{Want}
+use Rattle.stx_base.specs.declared.history.PoolNote.{PoolNote}
+use Rattle.stx_base.specs.declared.history.PoolEntry.{PoolEntry}
+use Rattle.stx_base.specs.Histories.{pool_notes, has_room}
 
 abbrev pub contains : List ℕ → ℕ → Bool
 contains numbers n = list_any (λ m. m == n) numbers

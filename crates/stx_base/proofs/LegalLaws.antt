@@ -2,16 +2,16 @@
 use Rattle.std.proofs.Common.{◌≡◌, ℕ, ℤ, ◌+◌, ◌*◌, ◌^◌, ◌<◌, ◌≤◌, IsTrue, List, [], ◌∷◌, ◌++◌, length, Option, Some, None, All, sym, ap, ◌∙◌, subst, inl, inr, arith, append_assoc, append-nil, length-append, ltb-true}
 use Rattle.std.proofs.lemmas.Bool.{and_parts, cases_eq}
 use Rattle.std.proofs.lemmas.List.Elements.{All-nil, All-push, All-head, All-tail}
-use Rattle.stx_model.specs.declared.call.Want.{Want}
-use Rattle.stx_model.specs.declared.history.PoolNote.{PoolNote}
-use Rattle.stx_model.specs.declared.history.PoolEntry.{PoolEntry}
-use Rattle.stx_model.specs.declared.history.StoreNote.{StoreNote}
-use Rattle.stx_model.specs.declared.history.StoreEntry.{StoreEntry}
-use Rattle.stx_model.specs.Histories.{store_notes, pool_notes_of, store_notes_of, has_room}
-use Rattle.stx_model.specs.Pools.{taken_or_empty, pool_reply, pool_want, pool_proper}
-use Rattle.stx_model.specs.Stores.{begun, journal, access_answer, auto_answer, store_reply, store_want, store_proper}
-use Rattle.stx_model.specs.Legal.{PoolFits, PoolLegalFrom, PoolLegal, StoreFits, StoreLegalFrom, StoreLegal}
-use Rattle.stx_model.proofs.HistoryLaws.{total-le, length-made, pool_notes_of-push, pool_notes_of-push_other, store_notes_of-push, store_notes_of-push_other}
+use Rattle.stx_base.specs.declared.call.Want.{Want}
+use Rattle.stx_base.specs.declared.history.PoolNote.{PoolNote}
+use Rattle.stx_base.specs.declared.history.PoolEntry.{PoolEntry}
+use Rattle.stx_base.specs.declared.history.StoreNote.{StoreNote}
+use Rattle.stx_base.specs.declared.history.StoreEntry.{StoreEntry}
+use Rattle.stx_base.specs.Histories.{store_notes, pool_notes_of, store_notes_of, has_room}
+use Rattle.stx_base.specs.Pools.{taken_or_empty, pool_reply, pool_want, pool_proper}
+use Rattle.stx_base.specs.Stores.{begun, journal, access_answer, auto_answer, store_reply, store_want, store_proper}
+use Rattle.stx_base.specs.Legal.{PoolFits, PoolLegalFrom, PoolLegal, StoreFits, StoreLegalFrom, StoreLegal}
+use Rattle.stx_base.proofs.HistoryLaws.{total-le, length-made, pool_notes_of-push, pool_notes_of-push_other, store_notes_of-push, store_notes_of-push_other}
 
 -- ---- growing
 

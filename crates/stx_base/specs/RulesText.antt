@@ -5,9 +5,9 @@ use Rattle.stx_scenario.specs.declared.numbers.ClassNo.{ClassNo}
 use Rattle.stx_scenario.specs.declared.numbers.MethodNo.{MethodNo}
 use Rattle.stx_scenario.specs.declared.scenario.Scenario.{Scenario}
 use Rattle.stx_scenario.specs.declared.scenario.TxAttr.{TxAttr}
-use Rattle.stx_model.specs.Attributes.{attribute}
-use Rattle.stx_model.specs.Rules.{winner, rolls_back}
-use Rattle.stx_model.specs.Lines.{method_name, class_name, decision_word, winner_text, line_feed}
+use Rattle.stx_base.specs.Attributes.{attribute}
+use Rattle.stx_base.specs.Rules.{winner, rolls_back}
+use Rattle.stx_base.specs.Lines.{method_name, class_name, decision_word, winner_text, line_feed}
 
 -- a class thrown out of a method
 abbrev pub decision_text : Scenario → MethodNo → TxAttr → ClassNo → List ℕ

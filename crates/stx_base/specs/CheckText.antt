@@ -1,7 +1,7 @@
 -- The text that answers a check.
 use Rattle.std.specs.Prelude.{ℕ, List, ◌++◌, codes}
 use Rattle.std.specs.Fmt.{decimal}
-use Rattle.stx_model.specs.Lines.{line_feed}
+use Rattle.stx_base.specs.Lines.{line_feed}
 
 -- a scenario that is accepted, with its weight
 abbrev pub check_words : ℕ → List ℕ

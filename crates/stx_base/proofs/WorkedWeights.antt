@@ -7,7 +7,7 @@ use Rattle.stx_scenario.specs.declared.scenario.Method.{Method}
 use Rattle.stx_scenario.specs.declared.scenario.SyncMode.{SyncMode}
 use Rattle.stx_scenario.specs.declared.scenario.Phase.{Phase}
 use Rattle.stx_scenario.specs.declared.scenario.Stmt.{Stmt}
-use Rattle.stx_model.specs.Weight.{leads, IsOnCycle, longest, rank, cost_within, size, registrations, weight}
+use Rattle.stx_base.specs.Weight.{leads, IsOnCycle, longest, rank, cost_within, size, registrations, weight}
 
 abbrev m : ℕ → MethodNo
 m n = record { 0 = n }

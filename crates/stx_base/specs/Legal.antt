@@ -1,10 +1,10 @@
 -- Legal histories: each call is proper after its client's own earlier ones, and each answer is the reply to it.
 use Rattle.std.specs.Prelude.{◌≡◌, ℕ, ℤ, ◌<◌, List, [], ◌∷◌, ◌++◌, Some, IsTrue, ⊤}
-use Rattle.stx_model.specs.declared.history.PoolEntry.{PoolEntry}
-use Rattle.stx_model.specs.declared.history.StoreEntry.{StoreEntry}
-use Rattle.stx_model.specs.Histories.{pool_notes_of, store_notes_of}
-use Rattle.stx_model.specs.Pools.{pool_reply, pool_want, pool_proper}
-use Rattle.stx_model.specs.Stores.{store_reply, store_want, store_proper}
+use Rattle.stx_base.specs.declared.history.PoolEntry.{PoolEntry}
+use Rattle.stx_base.specs.declared.history.StoreEntry.{StoreEntry}
+use Rattle.stx_base.specs.Histories.{pool_notes_of, store_notes_of}
+use Rattle.stx_base.specs.Pools.{pool_reply, pool_want, pool_proper}
+use Rattle.stx_base.specs.Stores.{store_reply, store_want, store_proper}
 
 -- an entry of the pool fits after those before it
 pub record PoolFits (clients size : ℕ) (before : List PoolEntry) (entry : PoolEntry) : Type 0 where

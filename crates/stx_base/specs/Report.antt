@@ -8,14 +8,14 @@ use Rattle.std.specs.BTreeMap.{insert_entry}
 use Rattle.std.specs.FinMap as finite
 use Rattle.std.specs.Fmt.{decimal, signed_decimal}
 use Rattle.stx_scenario.specs.declared.scenario.Scenario.{Scenario}
-use Rattle.stx_model.specs.declared.history.PoolEntry.{PoolEntry}
-use Rattle.stx_model.specs.declared.history.StoreNote.{StoreNote}
-use Rattle.stx_model.specs.declared.history.StoreEntry.{StoreEntry}
-use Rattle.stx_model.specs.declared.line.Line.{Line}
-use Rattle.stx_model.specs.declared.outcome.Outcome.{Outcome}
-use Rattle.stx_model.specs.Alone.{RowMap}
-use Rattle.stx_model.specs.Stores.{is_busy, committed_rows}
-use Rattle.stx_model.specs.Lines.{Shared, OfPool, OfStore, OfNeither, shared_by, line_text, line_feed}
+use Rattle.stx_base.specs.declared.history.PoolEntry.{PoolEntry}
+use Rattle.stx_base.specs.declared.history.StoreNote.{StoreNote}
+use Rattle.stx_base.specs.declared.history.StoreEntry.{StoreEntry}
+use Rattle.stx_base.specs.declared.line.Line.{Line}
+use Rattle.stx_base.specs.declared.outcome.Outcome.{Outcome}
+use Rattle.stx_base.specs.Alone.{RowMap}
+use Rattle.stx_base.specs.Stores.{is_busy, committed_rows}
+use Rattle.stx_base.specs.Lines.{Shared, OfPool, OfStore, OfNeither, shared_by, line_text, line_feed}
 
 -- ---- clients
 

@@ -2,12 +2,12 @@
 use Rattle.std.proofs.Common.{◌≡◌, ℕ, ℤ, suc, ◌+◌, true, false, cond, List, [], ◌∷◌, ◌++◌, length, Some, None, refl, sym, ap, ◌∙◌, arith, append_assoc, append-nil}
 use Rattle.std.specs.Prelude.{codes}
 use Rattle.std.specs.List.{filter_map, cons_option}
-use Rattle.stx_model.specs.declared.call.Want.{Want}
-use Rattle.stx_model.specs.declared.history.StoreNote.{StoreNote}
-use Rattle.stx_model.specs.declared.history.StoreEntry.{StoreEntry}
-use Rattle.stx_model.specs.Histories.{store_notes}
-use Rattle.stx_model.specs.Stores.{Transaction, is_busy, committed_by, committed_note, journal, store_reply}
-use Rattle.stx_model.specs.Report.{commit_words, commit_text, number_after, journal_text}
+use Rattle.stx_base.specs.declared.call.Want.{Want}
+use Rattle.stx_base.specs.declared.history.StoreNote.{StoreNote}
+use Rattle.stx_base.specs.declared.history.StoreEntry.{StoreEntry}
+use Rattle.stx_base.specs.Histories.{store_notes}
+use Rattle.stx_base.specs.Stores.{Transaction, is_busy, committed_by, committed_note, journal, store_reply}
+use Rattle.stx_base.specs.Report.{commit_words, commit_text, number_after, journal_text}
 
 -- the number of the next commit after these entries
 abbrev pub number_of : ℕ → List StoreEntry → ℕ

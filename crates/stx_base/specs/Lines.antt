@@ -12,12 +12,12 @@ use Rattle.stx_scenario.specs.declared.numbers.BeanNo.{BeanNo}
 use Rattle.stx_scenario.specs.declared.scenario.Scenario.{Scenario}
 use Rattle.stx_scenario.specs.declared.scenario.Method.{Method}
 use Rattle.stx_scenario.specs.declared.scenario.Propagation.{Propagation}
-use Rattle.stx_model.specs.declared.history.Access.{Access}
-use Rattle.stx_model.specs.declared.history.Answer.{Answer}
-use Rattle.stx_model.specs.declared.line.Label.{Label}
-use Rattle.stx_model.specs.declared.line.Line.{Line}
-use Rattle.stx_model.specs.declared.manager.Kind.{Kind}
-use Rattle.stx_model.specs.declared.manager.Ending.{Ending}
+use Rattle.stx_base.specs.declared.history.Access.{Access}
+use Rattle.stx_base.specs.declared.history.Answer.{Answer}
+use Rattle.stx_base.specs.declared.line.Label.{Label}
+use Rattle.stx_base.specs.declared.line.Line.{Line}
+use Rattle.stx_base.specs.declared.manager.Kind.{Kind}
+use Rattle.stx_base.specs.declared.manager.Ending.{Ending}
 
 -- ---- names, by number
 

@@ -2,14 +2,14 @@
 use Rattle.std.proofs.Common.{◌≡◌, ◌≢◌, ℕ, ℤ, zero, suc, ◌+◌, ◌-◌, ◌*◌, ◌^◌, ◌<◌, ◌≤◌, Bool, true, false, not, ◌&&◌, ◌||◌, ◌==◌, IsTrue, cond, List, [], ◌∷◌, ◌++◌, length, Some, fold, refl, sym, ap, ◌∙◌, subst, inl, inr, arith, length-append, eqb-true, ltb-true}
 use Rattle.std.specs.List.{list_any}
 use Rattle.std.proofs.lemmas.Bool.{false≢true, cases_eq, cases_lt, and_parts}
-use Rattle.stx_model.specs.declared.history.StoreNote.{StoreNote}
-use Rattle.stx_model.specs.declared.history.StoreEntry.{StoreEntry}
-use Rattle.stx_model.specs.Histories.{store_notes, store_notes_of, has_room}
-use Rattle.stx_model.specs.Pools.{contains}
-use Rattle.stx_model.specs.Stores.{begun, ends, is_live, pointed, savepoints, gone_back, released, store_reply, store_want, store_proper, can_go_back, is_pointed}
-use Rattle.stx_model.specs.Legal.{StoreFits, StoreLegal}
-use Rattle.stx_model.proofs.LegalLaws.{StoreLegal-along}
-use Rattle.stx_model.proofs.HistoryLaws.{or-false, or_none, list_any-push, store_notes-push, begun-push, is_live-parts, is_live-push, savepoints-push, store_notes_of-push, store_notes_of-push_other, none_of, total, total-at, total-le}
+use Rattle.stx_base.specs.declared.history.StoreNote.{StoreNote}
+use Rattle.stx_base.specs.declared.history.StoreEntry.{StoreEntry}
+use Rattle.stx_base.specs.Histories.{store_notes, store_notes_of, has_room}
+use Rattle.stx_base.specs.Pools.{contains}
+use Rattle.stx_base.specs.Stores.{begun, ends, is_live, pointed, savepoints, gone_back, released, store_reply, store_want, store_proper, can_go_back, is_pointed}
+use Rattle.stx_base.specs.Legal.{StoreFits, StoreLegal}
+use Rattle.stx_base.proofs.LegalLaws.{StoreLegal-along}
+use Rattle.stx_base.proofs.HistoryLaws.{or-false, or_none, list_any-push, store_notes-push, begun-push, is_live-parts, is_live-push, savepoints-push, store_notes_of-push, store_notes_of-push_other, none_of, total, total-at, total-le}
 
 -- ---- notes that name a transaction
 

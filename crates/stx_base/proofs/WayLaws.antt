@@ -6,7 +6,7 @@ use Rattle.std.proofs.lemmas.Bool.{cases_lt, or_cases, or_left, or_right, false_
 use Rattle.std.proofs.lemmas.Map.Keys.{IsDistinct-cons}
 use Rattle.std.proofs.lemmas.Map.Steps.{length-le_from_distinct_below}
 use Rattle.stx_scenario.specs.declared.numbers.MethodNo.{MethodNo}
-use Rattle.stx_model.specs.Weight.{has_method, Next, LeadsTo, Way, IsOnCycle, above, longest, IsLongestWay}
+use Rattle.stx_base.specs.Weight.{has_method, Next, LeadsTo, Way, IsOnCycle, above, longest, IsLongestWay}
 
 abbrev pub numbered : ℕ → MethodNo
 numbered n = record { 0 = n }

@@ -12,10 +12,10 @@ use Rattle.stx_scenario.specs.declared.scenario.Method.{Method}
 use Rattle.stx_scenario.specs.declared.scenario.Listener.{Listener}
 use Rattle.stx_scenario.specs.declared.scenario.SyncDecl.{SyncDecl}
 use Rattle.stx_scenario.specs.declared.scenario.Stmt.{Stmt}
-use Rattle.stx_model.specs.declared.cost.Cost.{Cost}
-use Rattle.stx_model.specs.Weight.{body_in, body_of, callbacks_in, callbacks_of, listeners_of, called, calls, led, leads, has_method, IsOnCycle, above, longest, rank, plus, total, one, callback_cost, callbacks_cost, listener_cost, statement_cost, body_cost, cost_within, cost, CallbackInRange, CallbacksInRange, StatementInRange, SyncInRange, InRange}
-use Rattle.stx_model.proofs.WayLaws.{same_method, has_itself, above_more, longest_settled, longest_all, longest_way, shallow, IsAcyclic}
-use Rattle.stx_model.specs.Laws.{RanksAreLongestWays}
+use Rattle.stx_base.specs.declared.cost.Cost.{Cost}
+use Rattle.stx_base.specs.Weight.{body_in, body_of, callbacks_in, callbacks_of, listeners_of, called, calls, led, leads, has_method, IsOnCycle, above, longest, rank, plus, total, one, callback_cost, callbacks_cost, listener_cost, statement_cost, body_cost, cost_within, cost, CallbackInRange, CallbacksInRange, StatementInRange, SyncInRange, InRange}
+use Rattle.stx_base.proofs.WayLaws.{same_method, has_itself, above_more, longest_settled, longest_all, longest_way, shallow, IsAcyclic}
+use Rattle.stx_base.specs.Laws.{RanksAreLongestWays}
 
 -- ---- what is in range
 

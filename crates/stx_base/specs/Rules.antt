@@ -5,7 +5,7 @@ use Rattle.std.specs.Option.{option_and_then}
 use Rattle.stx_scenario.specs.declared.scenario.ClassDecl.{ClassDecl}
 use Rattle.stx_scenario.specs.declared.scenario.Rule.{Rule}
 use Rattle.stx_scenario.specs.declared.scenario.RuleBy.{RuleBy}
-use Rattle.stx_model.specs.Classes.{steps_to, rolls_back_by_default}
+use Rattle.stx_base.specs.Classes.{steps_to, rolls_back_by_default}
 
 -- ---- what a rule matches
 

@@ -1,8 +1,8 @@
 -- Serial: the committed transactions, one after the other in the order of the journal, explain every answer.
 use Rattle.std.specs.Prelude.{◌≡◌, ℕ, ℤ, List, take, slice_get, Some}
-use Rattle.stx_model.specs.declared.history.StoreEntry.{StoreEntry}
-use Rattle.stx_model.specs.Alone.{first_rows, found_alone, answers}
-use Rattle.stx_model.specs.Stores.{Transaction, journal, after_all}
+use Rattle.stx_base.specs.declared.history.StoreEntry.{StoreEntry}
+use Rattle.stx_base.specs.Alone.{first_rows, found_alone, answers}
+use Rattle.stx_base.specs.Stores.{Transaction, journal, after_all}
 
 -- each transaction of the journal, run alone over the rows that those before it leave, finds exactly the answers in its notes
 abbrev pub Serial : List ℤ → List StoreEntry → Type 0

@@ -6,7 +6,7 @@ use Rattle.stx_scenario.specs.declared.scenario.Rule.{Rule}
 use Rattle.stx_scenario.specs.declared.scenario.RuleBy.{RuleBy}
 use Rattle.stx_scenario.specs.declared.classes.TheConstants.{EXCEPTION, ERROR}
 use Rattle.stx_scenario.specs.BuiltIn.{built_in, class_below}
-use Rattle.stx_model.specs.Rules.{rule_depth, winner, rolls_back}
+use Rattle.stx_base.specs.Rules.{rule_depth, winner, rolls_back}
 
 abbrev soft : List ClassDecl
 soft = built_in ++ class_below EXCEPTION.0 (codes "app.Soft") ∷ class_below 17 (codes "app.Softer") ∷ []

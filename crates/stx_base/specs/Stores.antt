@@ -1,14 +1,14 @@
 -- The store: which transactions live, which rows they hold, the journal, the rows, and what the store replies.
 use Rattle.std.specs.Prelude.{ℕ, ℤ, ◌+◌, ◌-◌, ◌^◌, Bool, true, false, not, ◌&&◌, ◌==◌, nat_lt, min, if◌then◌else◌, List, [], ◌∷◌, length, Option, Some, None}
 use Rattle.std.specs.List.{filter, filter_map, list_any, fold}
-use Rattle.stx_model.specs.declared.call.Want.{Want}
-use Rattle.stx_model.specs.declared.history.Access.{Access}
-use Rattle.stx_model.specs.declared.history.Answer.{Answer}
-use Rattle.stx_model.specs.declared.history.StoreNote.{StoreNote}
-use Rattle.stx_model.specs.declared.history.StoreEntry.{StoreEntry}
-use Rattle.stx_model.specs.Alone.{RowMap, first_rows, row_of, finds, after}
-use Rattle.stx_model.specs.Histories.{store_notes, has_room}
-use Rattle.stx_model.specs.Pools.{contains}
+use Rattle.stx_base.specs.declared.call.Want.{Want}
+use Rattle.stx_base.specs.declared.history.Access.{Access}
+use Rattle.stx_base.specs.declared.history.Answer.{Answer}
+use Rattle.stx_base.specs.declared.history.StoreNote.{StoreNote}
+use Rattle.stx_base.specs.declared.history.StoreEntry.{StoreEntry}
+use Rattle.stx_base.specs.Alone.{RowMap, first_rows, row_of, finds, after}
+use Rattle.stx_base.specs.Histories.{store_notes, has_room}
+use Rattle.stx_base.specs.Pools.{contains}
 
 -- ---- transactions
 

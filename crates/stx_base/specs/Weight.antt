@@ -10,7 +10,7 @@ use Rattle.stx_scenario.specs.declared.scenario.Method.{Method}
 use Rattle.stx_scenario.specs.declared.scenario.Listener.{Listener}
 use Rattle.stx_scenario.specs.declared.scenario.SyncDecl.{SyncDecl}
 use Rattle.stx_scenario.specs.declared.scenario.Stmt.{Stmt}
-use Rattle.stx_model.specs.declared.cost.Cost.{Cost}
+use Rattle.stx_base.specs.declared.cost.Cost.{Cost}
 
 -- ---- the parts of a scenario, by number
 

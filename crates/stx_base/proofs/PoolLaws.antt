@@ -4,14 +4,14 @@ use Rattle.std.proofs.lemmas.Bool.{false≢true, cases_Bool, cases_eq, or_cases,
 use Rattle.std.proofs.lemmas.List.{map-append}
 use Rattle.std.proofs.lemmas.List.Sums.{fold-append}
 use Rattle.std.proofs.lemmas.Map.Views.{any-filter_same}
-use Rattle.stx_model.specs.declared.call.Want.{Want}
-use Rattle.stx_model.specs.declared.history.PoolNote.{PoolNote}
-use Rattle.stx_model.specs.declared.history.PoolEntry.{PoolEntry}
-use Rattle.stx_model.specs.Histories.{pool_notes, pool_notes_of, has_room}
-use Rattle.stx_model.specs.Pools.{contains, without, out_after, out, first_free, taken_or_empty, pool_reply, pool_want, pool_proper}
-use Rattle.stx_model.specs.Legal.{PoolFits, PoolLegal}
-use Rattle.stx_model.proofs.HistoryLaws.{pool_notes_of-push, pool_notes_of-push_other}
-use Rattle.stx_model.proofs.LegalLaws.{PoolLegal-along}
+use Rattle.stx_base.specs.declared.call.Want.{Want}
+use Rattle.stx_base.specs.declared.history.PoolNote.{PoolNote}
+use Rattle.stx_base.specs.declared.history.PoolEntry.{PoolEntry}
+use Rattle.stx_base.specs.Histories.{pool_notes, pool_notes_of, has_room}
+use Rattle.stx_base.specs.Pools.{contains, without, out_after, out, first_free, taken_or_empty, pool_reply, pool_want, pool_proper}
+use Rattle.stx_base.specs.Legal.{PoolFits, PoolLegal}
+use Rattle.stx_base.proofs.HistoryLaws.{pool_notes_of-push, pool_notes_of-push_other}
+use Rattle.stx_base.proofs.LegalLaws.{PoolLegal-along}
 
 -- ---- one entry more
 

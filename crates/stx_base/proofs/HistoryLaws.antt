@@ -6,13 +6,13 @@ use Rattle.std.proofs.lemmas.List.{map-append}
 use Rattle.std.proofs.lemmas.List.Elements.{All-head, All-tail, filter-append, filter_map-append}
 use Rattle.std.proofs.lemmas.List.Folds.{list_any-append}
 use Rattle.std.proofs.lemmas.List.Sums.{fold-append}
-use Rattle.stx_model.specs.declared.history.PoolEntry.{PoolEntry}
-use Rattle.stx_model.specs.declared.history.StoreNote.{StoreNote}
-use Rattle.stx_model.specs.declared.history.StoreEntry.{StoreEntry}
-pub use Rattle.stx_model.specs.Histories.{total}
-use Rattle.stx_model.specs.Histories.{pool_notes_of, store_notes, store_notes_of}
-use Rattle.stx_model.specs.Pools.{contains}
-use Rattle.stx_model.specs.Stores.{begun, ends, is_live, pointed, savepoints}
+use Rattle.stx_base.specs.declared.history.PoolEntry.{PoolEntry}
+use Rattle.stx_base.specs.declared.history.StoreNote.{StoreNote}
+use Rattle.stx_base.specs.declared.history.StoreEntry.{StoreEntry}
+pub use Rattle.stx_base.specs.Histories.{total}
+use Rattle.stx_base.specs.Histories.{pool_notes_of, store_notes, store_notes_of}
+use Rattle.stx_base.specs.Pools.{contains}
+use Rattle.stx_base.specs.Stores.{begun, ends, is_live, pointed, savepoints}
 
 -- ---- tests
 

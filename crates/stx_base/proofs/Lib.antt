@@ -1,0 +1,10 @@
+pub mod HistoryLaws
+pub mod LegalLaws
+pub mod PoolLaws
+pub mod StoreLaws
+pub mod JournalText
+pub mod WayLaws
+pub mod WeightLaws
+pub mod WorkedClasses
+pub mod WorkedRules
+pub mod WorkedWeights

@@ -1,0 +1,15 @@
+pub mod Histories
+pub mod Pools
+pub mod Alone
+pub mod Stores
+pub mod Legal
+pub mod Serial
+pub mod Attributes
+pub mod Classes
+pub mod Rules
+pub mod Weight
+pub mod Laws
+pub mod Lines
+pub mod Report
+pub mod RulesText
+pub mod CheckText

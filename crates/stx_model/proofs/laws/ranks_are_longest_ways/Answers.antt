@@ -1,5 +1,0 @@
-use Rattle.stx_model.proofs.WeightLaws.{ranks_are_longest_ways}
-use Rattle.stx_model.proofs.laws.ranks_are_longest_ways.Goals as goal
-
-pub returns : goal.returns
-returns c = ranks_are_longest_ways
