@@ -19,9 +19,11 @@ use Rattle.stx_base.specs.declared.manager.Kind.{Kind}
 use Rattle.stx_base.specs.declared.manager.Ending.{Ending}
 use Rattle.stx_base.specs.Attributes.{attribute}
 use Rattle.stx_model.specs.Contexts.{Live, bare}
-use Rattle.stx_model.specs.Meanings.{State, Result, Over, Stops, Breaks, state_of, Meaning, Note, FromPool, FromStore, and_then, finally, say, with_context, unread, hear, answered, is_answer, ask, on_take, on_begin, on_access}
+use Rattle.stx_base.specs.Notes.{is_answer}
+use Rattle.stx_base.specs.declared.history.Note.{Note}
+use Rattle.stx_model.specs.Meanings.{State, Result, Over, Stops, Breaks, state_of, Meaning, and_then, finally, say, with_context, unread, hear, answered, ask, on_take, on_begin, on_access}
 use Rattle.stx_base.specs.Weight.{body_of}
-use Rattle.stx_model.specs.Script.{throws, unless_busy, access_row, nothing_more, value_of, is_value, needed, added, statement_in, statement_with, statement, body, leaves, gives_back, ending_call, completes, ending_after, ruled, ends, owns_fresh, fresh_context, opened, begins, fresh, opening_of, intercepted, invoke, tops}
+use Rattle.stx_model.specs.Script.{throws, unless_busy, access_row, nothing_more, value_of, is_value, needed, added, statement_in, statement_with, statement, body, leaves, gives_back, ending_call, completes, ending_after, ruled, ends_scope, owns_fresh, fresh_context, opened, begins, fresh, opening_of, intercepted, invoke, tops}
 
 -- these lines, and then more or none
 abbrev pub Starts : List Line → List Line → Type 0
@@ -55,8 +57,8 @@ and_then_grows (Stops w st) next lines starts grows = starts
 and_then_grows (Breaks st) next lines starts grows = starts
 
 hear_grows : (n : Note) (st : State) → Starts (hear n st).lines st.lines
-hear_grows (FromPool n) st = (_, refl)
-hear_grows (FromStore n) st = (_, refl)
+hear_grows (Note.Pool n) st = (_, refl)
+hear_grows (Note.Store n) st = (_, refl)
 
 either_grows : (b : Bool) (first second : Meaning) → Grows first → Grows second → Grows (λ st. elim b [ true ↦ first st | false ↦ second st ])
 either_grows true first second grows grows_else st = grows st
@@ -86,15 +88,15 @@ unless_busy_grows next grows Answer.Absent st = grows Answer.Absent st
 unless_busy_grows next grows Answer.Done st = grows Answer.Done st
 
 on_access_grows : (next : Answer → Meaning) → ((r : Answer) → Grows (next r)) → (n : Note) → Grows (on_access next n)
-on_access_grows next grows (FromStore (StoreNote.Access t a r)) st = grows r st
-on_access_grows next grows (FromStore (StoreNote.Auto a r)) st = grows r st
-on_access_grows next grows (FromStore (StoreNote.Begin t)) st = same st.lines
-on_access_grows next grows (FromStore (StoreNote.Point t)) st = same st.lines
-on_access_grows next grows (FromStore (StoreNote.BackTo t)) st = same st.lines
-on_access_grows next grows (FromStore (StoreNote.Release t)) st = same st.lines
-on_access_grows next grows (FromStore (StoreNote.Commit t n)) st = same st.lines
-on_access_grows next grows (FromStore (StoreNote.Rollback t)) st = same st.lines
-on_access_grows next grows (FromPool n) st = same st.lines
+on_access_grows next grows (Note.Store (StoreNote.Access t a r)) st = grows r st
+on_access_grows next grows (Note.Store (StoreNote.Auto a r)) st = grows r st
+on_access_grows next grows (Note.Store (StoreNote.Begin t)) st = same st.lines
+on_access_grows next grows (Note.Store (StoreNote.Point t)) st = same st.lines
+on_access_grows next grows (Note.Store (StoreNote.BackTo t)) st = same st.lines
+on_access_grows next grows (Note.Store (StoreNote.Release t)) st = same st.lines
+on_access_grows next grows (Note.Store (StoreNote.Commit t n)) st = same st.lines
+on_access_grows next grows (Note.Store (StoreNote.Rollback t)) st = same st.lines
+on_access_grows next grows (Note.Pool n) st = same st.lines
 
 pub access_grows : (t : ℕ) (a : Access) (next : Answer → Meaning) → ((r : Answer) → Grows (next r)) → Grows (access_row t a next)
 access_grows t a next grows =
@@ -150,7 +152,7 @@ pub completes_grows : (m : MethodNo) (c t : ℕ) (e : Ending) (x : Option ClassN
 unfolding completes
 completes_grows m c t e x = ask_grows (ending_call t e) (λ _. gives_back m c x) (λ n. gives_back_grows m c x)
 
-pub ends_grows : (S : Scenario) (m : MethodNo) (a : TxAttr) (c t : ℕ) (x : Option ClassNo) → Grows (ends S m a c t x)
+pub ends_grows : (S : Scenario) (m : MethodNo) (a : TxAttr) (c t : ℕ) (x : Option ClassNo) → Grows (ends_scope S m a c t x)
 ends_grows S m a c t None st = say_grows (Line.End Ending.Commit) (completes m c t Ending.Commit None) (completes_grows m c t Ending.Commit None) st
 ends_grows S m a c t (Some x) st =
     more_yet _ (ruled S a.rules (Some x) st).lines _
@@ -162,25 +164,25 @@ unfolding opened
 opened_grows S m a c t st =
     let owns = owns_fresh S.settings.mode in
     let open_state = say (Line.Opened Kind.Fresh owns) (with_context (fresh_context c t a.read_only owns) st) in
-    finally_grows (body (body_of S m) open_state) (ends S m a c t) st.lines
+    finally_grows (body (body_of S m) open_state) (ends_scope S m a c t) st.lines
     (more_yet _ open_state.lines _ (body_grows (body_of S m) open_state) (_, refl)) (ends_grows S m a c t)
 
 on_begin_grows : (next : ℕ → Meaning) → ((t : ℕ) → Grows (next t)) → (n : Note) → Grows (on_begin next n)
-on_begin_grows next grows (FromStore (StoreNote.Begin t)) st = grows t st
-on_begin_grows next grows (FromStore (StoreNote.Access t a r)) st = same st.lines
-on_begin_grows next grows (FromStore (StoreNote.Auto a r)) st = same st.lines
-on_begin_grows next grows (FromStore (StoreNote.Point t)) st = same st.lines
-on_begin_grows next grows (FromStore (StoreNote.BackTo t)) st = same st.lines
-on_begin_grows next grows (FromStore (StoreNote.Release t)) st = same st.lines
-on_begin_grows next grows (FromStore (StoreNote.Commit t n)) st = same st.lines
-on_begin_grows next grows (FromStore (StoreNote.Rollback t)) st = same st.lines
-on_begin_grows next grows (FromPool n) st = same st.lines
+on_begin_grows next grows (Note.Store (StoreNote.Begin t)) st = grows t st
+on_begin_grows next grows (Note.Store (StoreNote.Access t a r)) st = same st.lines
+on_begin_grows next grows (Note.Store (StoreNote.Auto a r)) st = same st.lines
+on_begin_grows next grows (Note.Store (StoreNote.Point t)) st = same st.lines
+on_begin_grows next grows (Note.Store (StoreNote.BackTo t)) st = same st.lines
+on_begin_grows next grows (Note.Store (StoreNote.Release t)) st = same st.lines
+on_begin_grows next grows (Note.Store (StoreNote.Commit t n)) st = same st.lines
+on_begin_grows next grows (Note.Store (StoreNote.Rollback t)) st = same st.lines
+on_begin_grows next grows (Note.Pool n) st = same st.lines
 
 on_take_grows : (next : Option ℕ → Meaning) → ((c : Option ℕ) → Grows (next c)) → (n : Note) → Grows (on_take next n)
-on_take_grows next grows (FromPool (PoolNote.Taken c)) st = grows (Some c) st
-on_take_grows next grows (FromPool PoolNote.Empty) st = grows None st
-on_take_grows next grows (FromPool (PoolNote.Given c)) st = same st.lines
-on_take_grows next grows (FromStore n) st = same st.lines
+on_take_grows next grows (Note.Pool (PoolNote.Taken c)) st = grows (Some c) st
+on_take_grows next grows (Note.Pool PoolNote.Empty) st = grows None st
+on_take_grows next grows (Note.Pool (PoolNote.Given c)) st = same st.lines
+on_take_grows next grows (Note.Store n) st = same st.lines
 
 pub begins_grows : (S : Scenario) (m : MethodNo) (a : TxAttr) (c : Option ℕ) → Grows (begins S m a c)
 unfolding begins

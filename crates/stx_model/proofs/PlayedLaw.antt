@@ -1,5 +1,5 @@
 -- When histories are faithful: they are legal, and each client's script over its own notes is done and has read them all.
-use Rattle.std.proofs.Common.{◌≡◌, ℕ, ℤ, ◌<◌, true, false, not, ◌&&◌, ◌||◌, ◌==◌, List, [], ◌∷◌, ◌++◌, map, length, Some, refl, sym, ap, ◌∙◌, subst, inl, inr, arith}
+use Rattle.std.proofs.Common.{◌≡◌, ℕ, ◌<◌, true, false, not, ◌&&◌, ◌||◌, ◌==◌, List, [], ◌∷◌, ◌++◌, map, length, Some, refl, sym, ap, ◌∙◌, subst, inl, inr, arith}
 use Rattle.std.specs.Prelude.{slice_get}
 use Rattle.std.specs.List.{list_any}
 use Rattle.std.proofs.lemmas.Bool.{false≢true, cases_Bool, cases_eq, or_cases, or_left, or_right, and_parts, not-true}
@@ -7,6 +7,7 @@ use Rattle.std.proofs.lemmas.List.Folds.{list_any-append}
 use Rattle.std.proofs.lemmas.List.FromFn.{length-map-range_with_len, get_or-map-range_with_len}
 use Rattle.std.proofs.lemmas.Option.{same_Some, slice_get-get_or, slice_get_within}
 use Rattle.stx_scenario.specs.declared.scenario.Scenario.{Scenario}
+use Rattle.stx_base.specs.declared.facts.StoreFacts.{StoreFacts}
 use Rattle.stx_base.specs.declared.call.Want.{Want}
 use Rattle.stx_base.specs.declared.history.PoolNote.{PoolNote}
 use Rattle.stx_base.specs.declared.history.PoolEntry.{PoolEntry}
@@ -20,7 +21,7 @@ use Rattle.stx_model.specs.Meanings.{Result, Over, Stops, Breaks, state_of, stop
 use Rattle.stx_model.specs.Played.{Turns, script_so_far, want_so_far, lines_so_far, outcome_of}
 use Rattle.stx_base.specs.Pools.{contains, out_after, out}
 use Rattle.stx_model.specs.Reads.{ReadsAll}
-use Rattle.stx_base.specs.Stores.{begun, ends, live, is_live}
+use Rattle.stx_base.specs.Stores.{store_facts, begun, ends, live, is_live}
 use Rattle.stx_model.proofs.FreshLaw.{own_notes_fresh}
 use Rattle.stx_base.proofs.HistoryLaws.{begun-push, is_live-parts, none_of, store_notes-push, store_notes_of-push, store_notes_of-push_other, pool_notes_of-push_other}
 use Rattle.stx_base.proofs.LegalLaws.{PoolLegal-along, StoreLegal-along}
@@ -100,8 +101,8 @@ IsBegun clients H = (t : ℕ) → contains (begun (store_notes H)) t ≡ true �
 contains_begun-push : (ns : List StoreNote) (n : StoreNote) (t : ℕ) → contains (begun (ns ++ n ∷ [])) t ≡ (contains (begun ns) t || contains (begun (n ∷ [])) t)
 contains_begun-push ns n t = ap (λ us. contains us t) (begun-push ns n) ∙ list_any-append (λ m. m == t) (begun ns) (begun (n ∷ []))
 
-begun_more : (clients : ℕ) (values : List ℤ) (H : List StoreEntry) (e : StoreEntry) → IsBegun clients H → StoreFits clients values H e → IsBegun clients (H ++ e ∷ [])
-begun_more clients values H e was fits t there = elim (or_cases (contains (begun (store_notes H)) t) (contains (begun (e.note ∷ [])) t) now) [
+begun_more : (clients : ℕ) (facts : StoreFacts) (H : List StoreEntry) (e : StoreEntry) → IsBegun clients H → StoreFits clients facts H e → IsBegun clients (H ++ e ∷ [])
+begun_more clients facts H e was fits t there = elim (or_cases (contains (begun (store_notes H)) t) (contains (begun (e.note ∷ [])) t) now) [
   | inl before ↦ kept (was t before)
   | inr new ↦ record {
     client = e.client;
@@ -142,12 +143,12 @@ lives_at_beginner clients H t by unended =
     ∙ ap not (none_of (ends t) H by.client unended)
 
 -- where none lives in the notes of a client below the count, none lives
-none_lives : (clients : ℕ) (values : List ℤ) (H : List StoreEntry) → StoreLegal clients values H
+none_lives : (clients : ℕ) (facts : StoreFacts) (H : List StoreEntry) → StoreLegal clients facts H
     → ((c : ℕ) → c < clients → live (store_notes_of H c) ≡ []) → live (store_notes H) ≡ []
-none_lives clients values H legal none = none_live (live (store_notes H)) (λ t. elim (cases_Bool (is_live (store_notes H) t)) [
+none_lives clients facts H legal none = none_live (live (store_notes H)) (λ t. elim (cases_Bool (is_live (store_notes H) t)) [
   | inl lives ↦
       let parts = and_parts (contains (begun (store_notes H)) t) (not (list_any (ends t) (store_notes H))) (sym (is_live-parts (store_notes H) t) ∙ lives) in
-      let by : Beginner clients H t = StoreLegal-along clients values (IsBegun clients) (λ u h. absurd (false≢true h)) (begun_more clients values) H legal t parts.0 in
+      let by : Beginner clients H t = StoreLegal-along clients facts (IsBegun clients) (λ u h. absurd (false≢true h)) (begun_more clients facts) H legal t parts.0 in
       let own : is_live (store_notes_of H by.client) t ≡ true = lives_at_beginner clients H t by (not-true (list_any (ends t) (store_notes H)) parts.1) in
       absurd (false≢true (ap (λ ts. contains ts t) (sym (none by.client by.below)) ∙ own))
   | inr absent ↦ absent
@@ -169,7 +170,7 @@ lines_at S t c below =
 
 -- ---- the whole
 
-module _ (S : Scenario) (t : Turns) (pool_legal : PoolLegal (length S.clients) S.settings.pool t.pool) (store_legal : StoreLegal (length S.clients) S.values t.store)
+module _ (S : Scenario) (t : Turns) (pool_legal : PoolLegal (length S.clients) S.settings.pool t.pool) (store_legal : StoreLegal (length S.clients) (store_facts S) t.store)
     (reads_all : (c : ℕ) → c < length S.clients → ReadsAll S c (pool_notes_of t.pool c) (store_notes_of t.store c))
     (done : (c : ℕ) → c < length S.clients → want_so_far S t c ≡ Some Want.Done) where
   stops_done : (c : ℕ) → c < length S.clients → script_so_far S t c ≡ Stops Want.Done (state_of (script_so_far S t c))
@@ -180,7 +181,7 @@ module _ (S : Scenario) (t : Turns) (pool_legal : PoolLegal (length S.clients) S
       let read = reads_all c below in
       let fresh = own_notes_fresh (length S.clients) c in
       let back = gives_all_back S c (pool_notes_of t.pool c) (store_notes_of t.store c) (state_of (script_so_far S t c)) (stops_done c below) read.pool_read read.store_read in
-      (back.0 (fresh.0 S.settings.pool t.pool pool_legal), back.1 (fresh.1 S.values t.store store_legal))
+      (back.0 (fresh.0 S.settings.pool t.pool pool_legal), back.1 (fresh.1 (store_facts S) t.store store_legal))
 
   calls_balanced : (c : ℕ) (lines : List Line) → slice_get (outcome_of S t).lines c ≡ Some lines → IsBalanced (map connection_bracket lines)
   calls_balanced c lines is =
@@ -193,13 +194,13 @@ module _ (S : Scenario) (t : Turns) (pool_legal : PoolLegal (length S.clients) S
   is_back : IsBack (outcome_of S t)
   is_back = record {
     pool = none_out (length S.clients) S.settings.pool t.pool pool_legal (λ c below. (own_back c below).0);
-    store = none_lives (length S.clients) S.values t.store store_legal (λ c below. (own_back c below).1);
+    store = none_lives (length S.clients) (store_facts S) t.store store_legal (λ c below. (own_back c below).1);
     calls = calls_balanced;
   }
 
 -- legal histories are faithful once each client's script is done and has read its notes
 pub faithful_if_done : (S : Scenario) (t : Turns)
-    → PoolLegal (length S.clients) S.settings.pool t.pool → StoreLegal (length S.clients) S.values t.store
+    → PoolLegal (length S.clients) S.settings.pool t.pool → StoreLegal (length S.clients) (store_facts S) t.store
     → ((c : ℕ) → c < length S.clients → ReadsAll S c (pool_notes_of t.pool c) (store_notes_of t.store c))
     → ((c : ℕ) → c < length S.clients → want_so_far S t c ≡ Some Want.Done)
     → Faithful S (outcome_of S t)
@@ -213,6 +214,6 @@ faithful_if_done S t pool_legal store_legal reads_all done = record {
     store_read = (reads_all c below).store_read;
     lines = lines_at S t c below;
   };
-  serial = journal_serial (length S.clients) S.values t.store store_legal;
+  serial = journal_serial (length S.clients) (store_facts S) t.store store_legal;
   back = is_back S t pool_legal store_legal reads_all done;
 }

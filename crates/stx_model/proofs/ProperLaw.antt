@@ -26,7 +26,9 @@ use Rattle.stx_base.specs.declared.manager.Ending.{Ending}
 use Rattle.stx_base.specs.Attributes.{attribute}
 use Rattle.stx_model.specs.Contexts.{Context, Live, bare}
 use Rattle.stx_model.specs.Faithful.{Bracket, Neither, open_after, connection_bracket, transaction_bracket}
-use Rattle.stx_model.specs.Meanings.{State, Result, Over, Stops, Breaks, state_of, at_first, Meaning, Note, FromPool, FromStore, and_then, finally, say, with_context, unread, hear, answered, pool_answers, store_answers, pool_line, store_line, ask, on_take, on_begin, on_access}
+use Rattle.stx_base.specs.Notes.{pool_answers, store_answers, pool_line, store_line}
+use Rattle.stx_base.specs.declared.history.Note.{Note}
+use Rattle.stx_model.specs.Meanings.{State, Result, Over, Stops, Breaks, state_of, at_first, Meaning, and_then, finally, say, with_context, unread, hear, answered, ask, on_take, on_begin, on_access}
 use Rattle.stx_base.specs.Pools.{contains, out_after, out, pool_proper}
 use Rattle.stx_model.specs.Laws.{ReadsInOrder, WantsProper, Balanced, GivesAllBack}
 use Rattle.stx_base.specs.Histories.{has_room}
@@ -34,7 +36,7 @@ use Rattle.stx_model.specs.Flat.{calls_weight, flat_weight}
 use Rattle.stx_model.specs.Reads.{IsEndOf, BeginsFresh, IsProperAfter, count_unread, notes_read}
 use Rattle.stx_base.specs.Stores.{begun, live, is_live, savepoints, is_pointed, store_proper}
 use Rattle.stx_base.specs.Weight.{body_of}
-use Rattle.stx_model.specs.Script.{throws, unless_busy, access_row, nothing_more, value_of, is_value, needed, added, statement_in, statement_with, statement, body, leaves, gives_back, ending_call, completes, ending_after, ruled, ends, owns_fresh, fresh_context, opened, begins, fresh, opening_of, intercepted, invoke, tops, calls_of, script}
+use Rattle.stx_model.specs.Script.{throws, unless_busy, access_row, nothing_more, value_of, is_value, needed, added, statement_in, statement_with, statement, body, leaves, gives_back, ending_call, completes, ending_after, ruled, ends_scope, owns_fresh, fresh_context, opened, begins, fresh, opening_of, intercepted, invoke, tops, calls_of, script}
 use Rattle.stx_model.proofs.ProperNotes.{Stands, stands_none, stands_begin, stands_access, stands_commit, stands_rollback, fresh_begin, none_live}
 use Rattle.stx_model.proofs.ReadsLaw.{script_reads}
 
@@ -150,23 +152,23 @@ module _ (pool : List PoolNote) (store : List StoreNote) where
   tested after false next st rest goes = rest
 
   pool_asked : (after : State → Type 0) (w : Want) (next : Note → Meaning) (st : State) (left : List PoolNote) → st.pool ≡ left → StopsWell pool store w st
-      → ((n : PoolNote) → pool_answers w n ≡ true → st.pool ≡ n ∷ drop 1 st.pool → EndsWell after (next (FromPool n) (hear (FromPool n) st)))
-      → EndsWell after (answered w next st (option_map FromPool (slice_get left 0)))
+      → ((n : PoolNote) → pool_answers w n ≡ true → st.pool ≡ n ∷ drop 1 st.pool → EndsWell after (next (Note.Pool n) (hear (Note.Pool n) st)))
+      → EndsWell after (answered w next st (option_map Note.Pool (slice_get left 0)))
   pool_asked after w next st [] is stops goes = stops
   pool_asked after w next st (n ∷ ns) is stops goes =
-      tested after (pool_answers w n) (next (FromPool n) (hear (FromPool n) st)) st (remains stops.taken stops.lives st stops.holds)
+      tested after (pool_answers w n) (next (Note.Pool n) (hear (Note.Pool n) st)) st (remains stops.taken stops.lives st stops.holds)
       (λ answers. goes n answers (is ∙ ap (λ ms. n ∷ drop 1 ms) (sym is)))
 
   store_asked : (after : State → Type 0) (w : Want) (next : Note → Meaning) (st : State) (left : List StoreNote) → st.store ≡ left → StopsWell pool store w st
-      → ((n : StoreNote) → store_answers w n ≡ true → st.store ≡ n ∷ drop 1 st.store → EndsWell after (next (FromStore n) (hear (FromStore n) st)))
-      → EndsWell after (answered w next st (option_map FromStore (slice_get left 0)))
+      → ((n : StoreNote) → store_answers w n ≡ true → st.store ≡ n ∷ drop 1 st.store → EndsWell after (next (Note.Store n) (hear (Note.Store n) st)))
+      → EndsWell after (answered w next st (option_map Note.Store (slice_get left 0)))
   store_asked after w next st [] is stops goes = stops
   store_asked after w next st (n ∷ ns) is stops goes =
-      tested after (store_answers w n) (next (FromStore n) (hear (FromStore n) st)) st (remains stops.taken stops.lives st stops.holds)
+      tested after (store_answers w n) (next (Note.Store n) (hear (Note.Store n) st)) st (remains stops.taken stops.lives st stops.holds)
       (λ answers. goes n answers (is ∙ ap (λ ms. n ∷ drop 1 ms) (sym is)))
 
   hears_pool : (before taken lives : List ℕ) (n : PoolNote) (st : State) → At pool store before lives st → st.pool ≡ n ∷ drop 1 st.pool
-      → out_after before n ≡ taken → open_after (Some before) (connection_bracket (pool_line n)) ≡ Some taken → At pool store taken lives (hear (FromPool n) st)
+      → out_after before n ≡ taken → open_after (Some before) (connection_bracket (pool_line n)) ≡ Some taken → At pool store taken lives (hear (Note.Pool n) st)
   hears_pool before taken lives n st h is goes step = record {
     pool_read = h.pool_read ++ n ∷ [];
     store_read = h.store_read;
@@ -180,7 +182,7 @@ module _ (pool : List PoolNote) (store : List StoreNote) where
 
   hears_store : (taken before lives : List ℕ) (n : StoreNote) (st : State) → At pool store taken before st → st.store ≡ n ∷ drop 1 st.store
       → ((read : List StoreNote) → store ≡ (read ++ n ∷ []) ++ drop 1 st.store → BeginsFresh store → Stands read before → Stands (read ++ n ∷ []) lives)
-      → open_after (Some before) (transaction_bracket (store_line n)) ≡ Some lives → At pool store taken lives (hear (FromStore n) st)
+      → open_after (Some before) (transaction_bracket (store_line n)) ≡ Some lives → At pool store taken lives (hear (Note.Store n) st)
   hears_store taken before lives n st h is stands step =
       let whole : store ≡ (h.store_read ++ n ∷ []) ++ drop 1 st.store = h.store_is ∙ ap (λ ns. h.store_read ++ ns) is ∙ sym (append_assoc h.store_read (n ∷ []) (drop 1 st.store)) in
       record {
@@ -218,9 +220,9 @@ module _ (pool : List PoolNote) (store : List StoreNote) where
     access_stays a next stays st h =
         store_asked Inside (Want.Access t a) (on_access (unless_busy next)) st st.store refl (record { taken = taken; lives = t ∷ []; holds = h.0; allows = refl }) by_note
       where
-        by_note : (n : StoreNote) → store_answers (Want.Access t a) n ≡ true → st.store ≡ n ∷ drop 1 st.store → EndsWell Inside (on_access (unless_busy next) (FromStore n) (hear (FromStore n) st))
+        by_note : (n : StoreNote) → store_answers (Want.Access t a) n ≡ true → st.store ≡ n ∷ drop 1 st.store → EndsWell Inside (on_access (unless_busy next) (Note.Store n) (hear (Note.Store n) st))
         by_note (StoreNote.Access u b r) answers is =
-            unless_busy_stays next stays r (hear (FromStore (StoreNote.Access u b r)) st)
+            unless_busy_stays next stays r (hear (Note.Store (StoreNote.Access u b r)) st)
             (hears_store taken (t ∷ []) (t ∷ []) (StoreNote.Access u b r) st h.0 is (λ read whole new. stands_access read u b r (t ∷ [])) refl, h.1)
         by_note (StoreNote.Begin u) answers is = absurd (false≢true answers)
         by_note (StoreNote.Point u) answers is = absurd (false≢true answers)
@@ -284,10 +286,10 @@ module _ (pool : List PoolNote) (store : List StoreNote) where
   gives_back_idle m c x st h =
       pool_asked Idle (Want.Give c) (λ _ given. leaves m x (with_context bare given)) st st.pool refl (record { taken = c ∷ []; lives = []; holds = h; allows = refl }) by_note
     where
-      by_note : (n : PoolNote) → pool_answers (Want.Give c) n ≡ true → st.pool ≡ n ∷ drop 1 st.pool → EndsWell Idle (leaves m x (with_context bare (hear (FromPool n) st)))
+      by_note : (n : PoolNote) → pool_answers (Want.Give c) n ≡ true → st.pool ≡ n ∷ drop 1 st.pool → EndsWell Idle (leaves m x (with_context bare (hear (Note.Pool n) st)))
       by_note (PoolNote.Given d) answers is =
           let same : d ≡ c = eqb-true d c answers in
-          leaves_idle m x (with_context bare (hear (FromPool (PoolNote.Given d)) st))
+          leaves_idle m x (with_context bare (hear (Note.Pool (PoolNote.Given d)) st))
           (hears_pool (c ∷ []) [] [] (PoolNote.Given d) st h is (rw (same, eq-eqb c c refl) refl) (rw (same, eq-eqb c c refl) refl))
       by_note (PoolNote.Taken d) answers is = absurd (false≢true answers)
       by_note PoolNote.Empty answers is = absurd (false≢true answers)
@@ -299,9 +301,9 @@ module _ (pool : List PoolNote) (store : List StoreNote) where
       next : Note → Meaning
       next _ = gives_back m c x
 
-      at_commit : (n : StoreNote) → store_answers (Want.Commit t) n ≡ true → st.store ≡ n ∷ drop 1 st.store → EndsWell Idle (gives_back m c x (hear (FromStore n) st))
+      at_commit : (n : StoreNote) → store_answers (Want.Commit t) n ≡ true → st.store ≡ n ∷ drop 1 st.store → EndsWell Idle (gives_back m c x (hear (Note.Store n) st))
       at_commit (StoreNote.Commit u k) answers is =
-          gives_back_idle m c x (hear (FromStore (StoreNote.Commit u k)) st)
+          gives_back_idle m c x (hear (Note.Store (StoreNote.Commit u k)) st)
           (hears_store (c ∷ []) (t ∷ []) [] (StoreNote.Commit u k) st h is
           (λ read whole new stands. stands_commit read u k (subst (λ v. Stands read (v ∷ [])) (sym (eqb-true u t answers)) stands))
           (rw (eqb-true u t answers, eq-eqb t t refl) refl))
@@ -313,9 +315,9 @@ module _ (pool : List PoolNote) (store : List StoreNote) where
       at_commit (StoreNote.Release u) answers is = absurd (false≢true answers)
       at_commit (StoreNote.Auto b r) answers is = absurd (false≢true answers)
 
-      at_rollback : (n : StoreNote) → store_answers (Want.Rollback t) n ≡ true → st.store ≡ n ∷ drop 1 st.store → EndsWell Idle (gives_back m c x (hear (FromStore n) st))
+      at_rollback : (n : StoreNote) → store_answers (Want.Rollback t) n ≡ true → st.store ≡ n ∷ drop 1 st.store → EndsWell Idle (gives_back m c x (hear (Note.Store n) st))
       at_rollback (StoreNote.Rollback u) answers is =
-          gives_back_idle m c x (hear (FromStore (StoreNote.Rollback u)) st)
+          gives_back_idle m c x (hear (Note.Store (StoreNote.Rollback u)) st)
           (hears_store (c ∷ []) (t ∷ []) [] (StoreNote.Rollback u) st h is
           (λ read whole new stands. stands_rollback read u (subst (λ v. Stands read (v ∷ [])) (sym (eqb-true u t answers)) stands))
           (rw (eqb-true u t answers, eq-eqb t t refl) refl))
@@ -327,7 +329,7 @@ module _ (pool : List PoolNote) (store : List StoreNote) where
       at_rollback (StoreNote.Release u) answers is = absurd (false≢true answers)
       at_rollback (StoreNote.Auto b r) answers is = absurd (false≢true answers)
 
-      rolls_back : EndsWell Idle (answered (Want.Rollback t) next st (option_map FromStore (slice_get st.store 0)))
+      rolls_back : EndsWell Idle (answered (Want.Rollback t) next st (option_map Note.Store (slice_get st.store 0)))
       rolls_back = store_asked Idle (Want.Rollback t) next st st.store refl (record { taken = c ∷ []; lives = t ∷ []; holds = h; allows = refl }) at_rollback
 
       by_ending : (e : Ending) → EndsWell Idle (answered (ending_call t e) next st (unread (ending_call t e) st))
@@ -335,7 +337,7 @@ module _ (pool : List PoolNote) (store : List StoreNote) where
       by_ending Ending.Rollback = rolls_back
       by_ending Ending.Unexpected = rolls_back
 
-  ends_idle : (S : Scenario) (m : MethodNo) (a : TxAttr) (c t : ℕ) (x : Option ClassNo) (st : State) → At pool store (c ∷ []) (t ∷ []) st → EndsWell Idle (ends S m a c t x st)
+  ends_idle : (S : Scenario) (m : MethodNo) (a : TxAttr) (c t : ℕ) (x : Option ClassNo) (st : State) → At pool store (c ∷ []) (t ∷ []) st → EndsWell Idle (ends_scope S m a c t x st)
   ends_idle S m a c t None st h =
       completes_idle m c t Ending.Commit None (say (Line.End Ending.Commit) st) (said (Line.End Ending.Commit) (c ∷ []) (t ∷ []) st refl refl h)
   ends_idle S m a c t (Some x) st h =
@@ -348,7 +350,7 @@ module _ (pool : List PoolNote) (store : List StoreNote) where
       let owns = owns_fresh S.settings.mode in
       let context = fresh_context c t a.read_only owns in
       let open_state = say (Line.Opened Kind.Fresh owns) (with_context context st) in
-      finally_well (Inside (c ∷ []) t context) Idle (body (body_of S m) open_state) (ends S m a c t)
+      finally_well (Inside (c ∷ []) t context) Idle (body (body_of S m) open_state) (ends_scope S m a c t)
       (body_stays (c ∷ []) t context refl (body_of S m) open_state (said (Line.Opened Kind.Fresh owns) (c ∷ []) (t ∷ []) (with_context context st) refl refl h, refl))
       (λ x after inside. ends_idle S m a c t x after inside.0)
 
@@ -357,9 +359,9 @@ module _ (pool : List PoolNote) (store : List StoreNote) where
   begins_idle S m a c st h =
       store_asked Idle Want.Begin (on_begin (λ t. opened S m a c t)) st st.store refl (record { taken = c ∷ []; lives = []; holds = h; allows = tt }) by_note
     where
-      by_note : (n : StoreNote) → store_answers Want.Begin n ≡ true → st.store ≡ n ∷ drop 1 st.store → EndsWell Idle (on_begin (λ t. opened S m a c t) (FromStore n) (hear (FromStore n) st))
+      by_note : (n : StoreNote) → store_answers Want.Begin n ≡ true → st.store ≡ n ∷ drop 1 st.store → EndsWell Idle (on_begin (λ t. opened S m a c t) (Note.Store n) (hear (Note.Store n) st))
       by_note (StoreNote.Begin t) answers is =
-          opened_idle S m a c t (hear (FromStore (StoreNote.Begin t)) st)
+          opened_idle S m a c t (hear (Note.Store (StoreNote.Begin t)) st)
           (hears_store (c ∷ []) [] (t ∷ []) (StoreNote.Begin t) st h is (λ read whole new. stands_begin read t (fresh_begin store read t (drop 1 st.store) new whole)) refl)
       by_note (StoreNote.Access u a r) answers is = absurd (false≢true answers)
       by_note (StoreNote.Point u) answers is = absurd (false≢true answers)
@@ -381,9 +383,9 @@ module _ (pool : List PoolNote) (store : List StoreNote) where
   fresh_idle S m a st h =
       pool_asked Idle Want.Take (on_take (begins S m a)) st st.pool refl (record { taken = []; lives = []; holds = h; allows = tt }) by_note
     where
-      by_note : (n : PoolNote) → pool_answers Want.Take n ≡ true → st.pool ≡ n ∷ drop 1 st.pool → EndsWell Idle (on_take (begins S m a) (FromPool n) (hear (FromPool n) st))
-      by_note (PoolNote.Taken c) answers is = begins_idle S m a c (hear (FromPool (PoolNote.Taken c)) st) (hears_pool [] (c ∷ []) [] (PoolNote.Taken c) st h is refl refl)
-      by_note PoolNote.Empty answers is = refused_idle S m a (hear (FromPool PoolNote.Empty) st) (hears_pool [] [] [] PoolNote.Empty st h is refl refl)
+      by_note : (n : PoolNote) → pool_answers Want.Take n ≡ true → st.pool ≡ n ∷ drop 1 st.pool → EndsWell Idle (on_take (begins S m a) (Note.Pool n) (hear (Note.Pool n) st))
+      by_note (PoolNote.Taken c) answers is = begins_idle S m a c (hear (Note.Pool (PoolNote.Taken c)) st) (hears_pool [] (c ∷ []) [] (PoolNote.Taken c) st h is refl refl)
+      by_note PoolNote.Empty answers is = refused_idle S m a (hear (Note.Pool PoolNote.Empty) st) (hears_pool [] [] [] PoolNote.Empty st h is refl refl)
       by_note (PoolNote.Given c) answers is = absurd (false≢true answers)
 
   opening_idle : (S : Scenario) (m : MethodNo) (a : TxAttr) (p : Propagation) (st : State) → Idle st → EndsWell Idle (opening_of S m a p st)

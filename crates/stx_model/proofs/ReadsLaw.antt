@@ -23,12 +23,14 @@ use Rattle.stx_base.specs.declared.manager.Ending.{Ending}
 use Rattle.stx_base.specs.Attributes.{attribute}
 use Rattle.stx_model.specs.Contexts.{Live, bare}
 use Rattle.stx_model.specs.Flat.{call_weight, calls_weight, flat_weight}
-use Rattle.stx_base.specs.Histories.{total}
+use Rattle.stx_base.specs.Histories.{sum_below}
 use Rattle.stx_model.specs.Laws.{ReadsWithin}
-use Rattle.stx_model.specs.Meanings.{State, Result, Over, Stops, Breaks, state_of, at_first, Meaning, Note, FromPool, FromStore, and_then, finally, say, with_context, unread, hear, answered, is_answer, ask, on_take, on_begin, on_access}
+use Rattle.stx_base.specs.Notes.{is_answer}
+use Rattle.stx_base.specs.declared.history.Note.{Note}
+use Rattle.stx_model.specs.Meanings.{State, Result, Over, Stops, Breaks, state_of, at_first, Meaning, and_then, finally, say, with_context, unread, hear, answered, ask, on_take, on_begin, on_access}
 use Rattle.stx_model.specs.Reads.{count_unread, notes_read}
 use Rattle.stx_base.specs.Weight.{body_of}
-use Rattle.stx_model.specs.Script.{throws, unless_busy, access_row, nothing_more, value_of, is_value, needed, added, statement_in, statement_with, statement, body, leaves, gives_back, ending_call, completes, ending_after, ruled, ends, owns_fresh, fresh_context, opened, begins, fresh, opening_of, intercepted, invoke, tops, calls_of, script}
+use Rattle.stx_model.specs.Script.{throws, unless_busy, access_row, nothing_more, value_of, is_value, needed, added, statement_in, statement_with, statement, body, leaves, gives_back, ending_call, completes, ending_after, ruled, ends_scope, owns_fresh, fresh_context, opened, begins, fresh, opening_of, intercepted, invoke, tops, calls_of, script}
 
 -- it reads at most so many notes
 abbrev pub Reads : ℕ → Meaning → Type 0
@@ -55,8 +57,8 @@ and_then_reads (Stops w st) next k n m first then = omega arith
 and_then_reads (Breaks st) next k n m first then = omega arith
 
 hear_reads : (n : Note) (st : State) → count_unread st ≤ 1 + count_unread (hear n st)
-hear_reads (FromPool n) st = omega (arith, length-drop 1 st.pool)
-hear_reads (FromStore n) st = omega (arith, length-drop 1 st.store)
+hear_reads (Note.Pool n) st = omega (arith, length-drop 1 st.pool)
+hear_reads (Note.Store n) st = omega (arith, length-drop 1 st.store)
 
 either_reads : (k n : ℕ) (b : Bool) (first second : Result) → k ≤ n + count_unread (state_of first) → k ≤ n + count_unread (state_of second)
     → k ≤ n + count_unread (state_of (elim b [ true ↦ first | false ↦ second ]))
@@ -89,10 +91,10 @@ unless_busy_reads n next reads Answer.Absent st = reads Answer.Absent st
 unless_busy_reads n next reads Answer.Done st = reads Answer.Done st
 
 on_access_reads : (k : ℕ) (next : Answer → Meaning) → ((r : Answer) → Reads k (next r)) → (n : Note) → Reads k (on_access next n)
-on_access_reads k next reads (FromStore (StoreNote.Access t a r)) st = reads r st
-on_access_reads k next reads (FromStore (StoreNote.Auto a r)) st = reads r st
-on_access_reads k next reads (FromStore _) st = nothing_read k st
-on_access_reads k next reads (FromPool n) st = nothing_read k st
+on_access_reads k next reads (Note.Store (StoreNote.Access t a r)) st = reads r st
+on_access_reads k next reads (Note.Store (StoreNote.Auto a r)) st = reads r st
+on_access_reads k next reads (Note.Store _) st = nothing_read k st
+on_access_reads k next reads (Note.Pool n) st = nothing_read k st
 
 access_reads : (n t : ℕ) (a : Access) (next : Answer → Meaning) → ((r : Answer) → Reads n (next r)) → Reads (1 + n) (access_row t a next)
 access_reads n t a next reads =
@@ -146,7 +148,7 @@ completes_reads : (m : MethodNo) (c t : ℕ) (e : Ending) (x : Option ClassNo) �
 unfolding completes
 completes_reads m c t e x = ask_reads (ending_call t e) (λ _. gives_back m c x) 1 (λ n. gives_back_reads m c x)
 
-ends_reads : (S : Scenario) (m : MethodNo) (a : TxAttr) (c t : ℕ) (x : Option ClassNo) → Reads 2 (ends S m a c t x)
+ends_reads : (S : Scenario) (m : MethodNo) (a : TxAttr) (c t : ℕ) (x : Option ClassNo) → Reads 2 (ends_scope S m a c t x)
 ends_reads S m a c t None st = completes_reads m c t Ending.Commit None (say (Line.End Ending.Commit) st)
 ends_reads S m a c t (Some x) st =
     completes_reads m c t (ending_after S a.rules (Some x)) (Some x) (say (Line.End (ending_after S a.rules (Some x))) (ruled S a.rules (Some x) st))
@@ -156,18 +158,18 @@ unfolding opened
 opened_reads S m a c t st =
     let owns = owns_fresh S.settings.mode in
     let open_state = say (Line.Opened Kind.Fresh owns) (with_context (fresh_context c t a.read_only owns) st) in
-    finally_reads (body (body_of S m) open_state) (ends S m a c t) (count_unread st) (2 * length (body_of S m)) 2 (body_reads (body_of S m) open_state) (ends_reads S m a c t)
+    finally_reads (body (body_of S m) open_state) (ends_scope S m a c t) (count_unread st) (2 * length (body_of S m)) 2 (body_reads (body_of S m) open_state) (ends_reads S m a c t)
 
 on_begin_reads : (k : ℕ) (next : ℕ → Meaning) → ((t : ℕ) → Reads k (next t)) → (n : Note) → Reads k (on_begin next n)
-on_begin_reads k next reads (FromStore (StoreNote.Begin t)) st = reads t st
-on_begin_reads k next reads (FromStore _) st = nothing_read k st
-on_begin_reads k next reads (FromPool n) st = nothing_read k st
+on_begin_reads k next reads (Note.Store (StoreNote.Begin t)) st = reads t st
+on_begin_reads k next reads (Note.Store _) st = nothing_read k st
+on_begin_reads k next reads (Note.Pool n) st = nothing_read k st
 
 on_take_reads : (k : ℕ) (next : Option ℕ → Meaning) → ((c : Option ℕ) → Reads k (next c)) → (n : Note) → Reads k (on_take next n)
-on_take_reads k next reads (FromPool (PoolNote.Taken c)) st = reads (Some c) st
-on_take_reads k next reads (FromPool PoolNote.Empty) st = reads None st
-on_take_reads k next reads (FromPool (PoolNote.Given c)) st = nothing_read k st
-on_take_reads k next reads (FromStore n) st = nothing_read k st
+on_take_reads k next reads (Note.Pool (PoolNote.Taken c)) st = reads (Some c) st
+on_take_reads k next reads (Note.Pool PoolNote.Empty) st = reads None st
+on_take_reads k next reads (Note.Pool (PoolNote.Given c)) st = nothing_read k st
+on_take_reads k next reads (Note.Store n) st = nothing_read k st
 
 begins_reads : (S : Scenario) (m : MethodNo) (a : TxAttr) (c : Option ℕ) → Reads (1 + (2 * length (body_of S m) + 2)) (begins S m a c)
 unfolding begins
@@ -213,28 +215,28 @@ script_reads S c pool store =
     tops_reads S 0 (calls_of S c) (at_first pool store) in
     omega arith
 
-total_first : (n : ℕ) (f : ℕ → ℕ) → total (suc n) f ≡ f 0 + total n (λ i. f (suc i))
-total_first zero f = omega arith
-total_first (suc n) f = let rest : total (suc n) f ≡ f 0 + total n (λ i. f (suc i)) = total_first n f in omega arith
+sum_below_first : (n : ℕ) (f : ℕ → ℕ) → sum_below (suc n) f ≡ f 0 + sum_below n (λ i. f (suc i))
+sum_below_first zero f = omega arith
+sum_below_first (suc n) f = let rest : sum_below (suc n) f ≡ f 0 + sum_below n (λ i. f (suc i)) = sum_below_first n f in omega arith
 
-total_within : (n b : ℕ) (f g : ℕ → ℕ) → ((i : ℕ) → f i ≤ b * g i) → total n f ≤ b * total n g
-total_within zero b f g each = omega arith
-total_within (suc n) b f g each =
-    let rest : total n f ≤ b * total n g = total_within n b f g each in
+sum_below_within : (n b : ℕ) (f g : ℕ → ℕ) → ((i : ℕ) → f i ≤ b * g i) → sum_below n f ≤ b * sum_below n g
+sum_below_within zero b f g each = omega arith
+sum_below_within (suc n) b f g each =
+    let rest : sum_below n f ≤ b * sum_below n g = sum_below_within n b f g each in
     let last : f n ≤ b * g n = each n in
     omega arith
 
 -- the sum over the places of a list is that over its items
-total_items : {X : Type 0} (weight : X → ℕ) (default : X) (xs : List X) → total (length xs) (λ i. weight (unwrap_or (slice_get xs i) default)) ≡ sum_by weight xs
-total_items weight default [] = refl
-total_items weight default (x ∷ xs) =
-    total_first (length xs) (λ i. weight (unwrap_or (slice_get (x ∷ xs) i) default))
-    ∙ ap (λ n. weight x + n) (total_items weight default xs)
+sum_below_items : {X : Type 0} (weight : X → ℕ) (default : X) (xs : List X) → sum_below (length xs) (λ i. weight (unwrap_or (slice_get xs i) default)) ≡ sum_by weight xs
+sum_below_items weight default [] = refl
+sum_below_items weight default (x ∷ xs) =
+    sum_below_first (length xs) (λ i. weight (unwrap_or (slice_get (x ∷ xs) i) default))
+    ∙ ap (λ n. weight x + n) (sum_below_items weight default xs)
     ∙ sym (sum_by-cons weight x xs)
 
 pub reads_within : ReadsWithin
 reads_within S pool store =
-    let each : total (length S.clients) (λ c. notes_read S c (pool c) (store c)) ≤ 8 * total (length S.clients) (λ c. calls_weight S (calls_of S c)) =
-    total_within (length S.clients) 8 (λ c. notes_read S c (pool c) (store c)) (λ c. calls_weight S (calls_of S c)) (λ c. script_reads S c (pool c) (store c)) in
-    let all : total (length S.clients) (λ c. calls_weight S (calls_of S c)) ≡ flat_weight S = total_items (calls_weight S) [] S.clients in
+    let each : sum_below (length S.clients) (λ c. notes_read S c (pool c) (store c)) ≤ 8 * sum_below (length S.clients) (λ c. calls_weight S (calls_of S c)) =
+    sum_below_within (length S.clients) 8 (λ c. notes_read S c (pool c) (store c)) (λ c. calls_weight S (calls_of S c)) (λ c. script_reads S c (pool c) (store c)) in
+    let all : sum_below (length S.clients) (λ c. calls_weight S (calls_of S c)) ≡ flat_weight S = sum_below_items (calls_weight S) [] S.clients in
     omega arith

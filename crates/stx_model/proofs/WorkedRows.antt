@@ -16,6 +16,7 @@ use Rattle.stx_scenario.specs.declared.scenario.Propagation.{Propagation}
 use Rattle.stx_scenario.specs.declared.scenario.Stmt.{Stmt}
 use Rattle.stx_scenario.specs.BuiltIn.{built_in}
 use Rattle.stx_scenario.specs.declared.classes.TheConstants.{CANNOT_ACQUIRE_LOCK_EXCEPTION}
+use Rattle.stx_base.specs.declared.facts.StoreFacts.{StoreFacts}
 use Rattle.stx_base.specs.declared.call.Want.{Want}
 use Rattle.stx_base.specs.declared.history.Access.{Access}
 use Rattle.stx_base.specs.declared.history.Answer.{Answer}
@@ -45,6 +46,10 @@ by c n = record { client = c; note = n }
 
 abbrev pool_by : ℕ → PoolNote → PoolEntry
 pool_by c n = record { client = c; note = n }
+
+-- a store with these first values
+abbrev pub made_with : List ℤ → StoreFacts
+made_with values = record { values = values }
 
 abbrev pub k : RowNo
 k = record { 0 = 0 }
@@ -98,7 +103,7 @@ pub one_method_script : script one_method 0 (PoolNote.Taken 1 ∷ PoolNote.Given
 unfolding script tops invoke fresh begins opened completes gives_back body statement ask
 one_method_script = refl
 
-pub one_method_legal : StoreLegal 1 [] written_and_read
+pub one_method_legal : StoreLegal 1 (made_with []) written_and_read
 unfolding store_reply store_proper
 one_method_legal = (
   record { client = lit< tt; proper = refl; reply = refl },
@@ -132,7 +137,7 @@ one_method_faithful = record {
   store_legal = one_method_legal;
   one_trace_each = refl;
   scripts = λ c below. subst (IsPlayedOut one_method one_outcome) (the_first c below) played_out;
-  serial = journal_serial 1 [] written_and_read one_method_legal;
+  serial = journal_serial 1 (made_with []) written_and_read one_method_legal;
   back = record { pool = refl; store = refl; calls = balanced };
 }
   where
@@ -211,7 +216,7 @@ side_by_side_legal = (
   ),
 )
 
-pub busy_rival_legal : StoreLegal 2 [] busy_rival
+pub busy_rival_legal : StoreLegal 2 (made_with []) busy_rival
 unfolding store_reply store_proper
 busy_rival_legal = (
   record { client = lit< tt; proper = refl; reply = refl },
@@ -291,7 +296,7 @@ in_turn_legal = (
   ),
 )
 
-pub later_rival_legal : StoreLegal 2 [] later_rival
+pub later_rival_legal : StoreLegal 2 (made_with []) later_rival
 unfolding store_reply store_proper
 later_rival_legal = (
   record { client = lit< tt; proper = refl; reply = refl },
@@ -322,7 +327,7 @@ kept_locks = by 0 (StoreNote.Begin 1) ∷ by 0 (StoreNote.Point 1)
     ∷ by 1 (StoreNote.Rollback 2)
     ∷ []
 
-pub kept_locks_legal : StoreLegal 2 [] kept_locks
+pub kept_locks_legal : StoreLegal 2 (made_with []) kept_locks
 unfolding store_reply store_proper
 kept_locks_legal = (
   record { client = lit< tt; proper = refl; reply = refl },

@@ -121,8 +121,8 @@ ruled S rules None st = st
 ruled S rules (Some x) st = say (Line.Rules (rolls_back S.classes rules x.0) (winner S.classes rules x.0)) st
 
 -- the end of the scope, after its body, by the rules of the method's attribute
-abbrev pub ends : Scenario → MethodNo → TxAttr → ℕ → ℕ → Option ClassNo → Meaning
-ends S m a c t x st =
+abbrev pub ends_scope : Scenario → MethodNo → TxAttr → ℕ → ℕ → Option ClassNo → Meaning
+ends_scope S m a c t x st =
     completes m c t (ending_after S a.rules x) x (say (Line.End (ending_after S a.rules x)) (ruled S a.rules x st))
 
 -- ---- a fresh scope
@@ -148,7 +148,7 @@ unfoldable pub opened : Scenario → MethodNo → TxAttr → ℕ → ℕ → Mea
 opened S m a c t st =
     let owns = owns_fresh S.settings.mode in
     finally (body (body_of S m) (say (Line.Opened Kind.Fresh owns) (with_context (fresh_context c t a.read_only owns) st)))
-    (ends S m a c t)
+    (ends_scope S m a c t)
 
 -- begins a transaction on the connection (DataSourceTransactionManager.doBegin); where the pool was empty the call is
 -- refused (CannotCreateTransactionException)
