@@ -276,7 +276,7 @@ due S rows ranks m (GraphFault.TooDeep n) range are found first fault =
     let here = first_deep S rows ranks m are found graph first in
     (no_cycle S graph, subst (λ n. IsFirst (IsTooDeep S) n) (sym fault.1) here)
 due S rows ranks m GraphFault.TooLarge range are found first fault = absurd fault
-due S rows ranks m GraphFault.NoMemory range are found first fault = tt
+due S rows ranks m (GraphFault.NoMemory _) range are found first fault = tt
 
 -- the weight, stopped at the cap
 pub light : (S : Scenario) (w : ℕ) → InRange S → Short S → w ≡ min (sum (map (client_weight (cost_within S 65)) S.clients)) cap → w ≤ 200000 → w ≡ weight S

@@ -46,11 +46,11 @@ abbrev pub IsDue : Scenario → GraphFault → Type 0
 IsDue S (GraphFault.CallCycle m) = IsFirst (LeadsToItself S) m
 IsDue S (GraphFault.TooDeep m) = NoCycle S × IsFirst (IsTooDeep S) m
 IsDue S GraphFault.TooLarge = NoCycle S × NoneTooDeep S × (200000 < weight S)
-IsDue S GraphFault.NoMemory = Unit {0}
+IsDue S (GraphFault.NoMemory _) = Unit {0}
 
 -- the fault where this is the first method from which a way is too long: a cycle's first method comes before it
 abbrev pub IsDepthFault : Next → ℕ → MethodNo → GraphFault → Type 0
 IsDepthFault next count method (GraphFault.CallCycle m) = IsFirst (IsOnCycle next) m
 IsDepthFault next count method (GraphFault.TooDeep m) = HasNoCycle next count × (m ≡ method)
 IsDepthFault next count method GraphFault.TooLarge = ⊥
-IsDepthFault next count method GraphFault.NoMemory = Unit {0}
+IsDepthFault next count method (GraphFault.NoMemory _) = Unit {0}
