@@ -19,4 +19,6 @@ pub use standard::{StdSink, StdSource};
 pub use whole::{ReadEnd, read_whole, write_whole};
 
 #[cfg(test)]
+mod standard_tests;
+#[cfg(test)]
 mod tests;

@@ -1,5 +1,7 @@
 // Standard input and output, or any other reader and writer, as a source and a sink that tell no bytes.
-ghost use Rattle.std.specs.Prelude.{◌≡◌, ℕ, ◌<◌, ◌≤◌, length, None, IfSome};
+ghost use Rattle.std.specs.Prelude.{◌≡◌, ℕ, ◌<◌, ◌≤◌, length, take, None, Ok, IfSome, IfNone, IsErr, MatchOption};
+ghost use Rattle.std.specs.Io.KnownBytes.{Appends, Consumes, IsAtEnd, Keeps};
+ghost use Rattle.stx_outside.specs.Streams.{HasCause};
 
 use crate::{Failed, Sink, Source};
 use std::io::{Read, Write};
@@ -38,13 +40,7 @@ impl<R: Read> Source for StdSource<R> {
     ghost turns = { λ _. 0 };
 
     fn read(&mut self, into: &mut [u8]) -> Result<usize, Failed> {
-        match self.input.read(into) {
-            Ok(count) => Ok(count),
-            Err(_) => {
-                self.faults = self.faults.saturating_add(1);
-                Err(Failed)
-            }
-        }
+        counted(read_once(&mut self.input, into), &mut self.faults)
     }
 }
 
@@ -80,21 +76,28 @@ impl<W: Write> Sink for StdSink<W> {
     ghost faults = { λ sink. sink };
 
     fn write(&mut self, from: &[u8]) -> Result<usize, Failed> {
-        match write_and_flush(&mut self.output, from) {
-            Some(count) => Ok(count),
-            None => {
-                self.faults = self.faults.saturating_add(1);
-                Err(Failed)
-            }
-        }
+        counted(write_once(&mut self.output, from), &mut self.faults)
     }
 }
 
+// How many bytes the reader gave, or `None` where it failed. Of what it has left, where that is known, exactly these
+// bytes are gone.
+fn read_once<R: Read>(input: &mut R, into: &mut [u8]) -> Option<usize>
+    ensures bound { IfSome result (λ count. count ≤ length into.new) }
+    ensures bytes { IfSome result (λ count. Consumes (R.remaining input.old) (R.remaining input.new) (take count into.new)) }
+    ensures end { IfSome result (λ count. count ≡ 0 → 0 < length into.new → IsAtEnd (R.remaining input.new)) }
+    ensures failed { IfNone result (Keeps (R.remaining input.old) (R.remaining input.new)) }
+{
+    input.read(into).ok()
+}
+
 // How many bytes the writer took, or `None` where it failed or took none of some. To take none of an empty slice is no
-// fault: a sink owes progress for a slice that isn't empty alone.
-fn write_and_flush<W: Write>(output: &mut W, from: &[u8]) -> Option<usize>
+// fault: a sink owes progress for a slice that isn't empty alone. What it holds, where that is known, gained exactly
+// these bytes.
+fn write_once<W: Write>(output: &mut W, from: &[u8]) -> Option<usize>
     ensures bound { IfSome result (λ count. count ≤ length from.now) }
     ensures some { IfSome result (λ count. 0 < length from.now → 0 < count) }
+    ensures bytes { IfSome result (λ count. Appends (W.contents output.old) (W.contents output.new) (take count from.now)) }
 {
     let count = output.write(from).ok()?;
     if count == 0 && !from.is_empty() {
@@ -102,4 +105,15 @@ fn write_and_flush<W: Write>(output: &mut W, from: &[u8]) -> Option<usize>
     }
     output.flush().ok()?;
     Some(count)
+}
+
+// What a call answers, with its fault counted where it has failed.
+fn counted(count: Option<usize>, faults: &mut u64) -> Result<usize, Failed>
+    ensures count { MatchOption count (IsErr result) (λ n. result ≡ Ok n) }
+    ensures cause { HasCause faults.old faults.new result }
+{
+    if count.is_none() {
+        *faults = faults.saturating_add(1);
+    }
+    count.ok_or(Failed)
 }
