@@ -2,6 +2,7 @@
 use Rattle.std.proofs.Common.{◌≡◌, ℕ, ◌<◌, ◌^◌, List, length, Option, Some, None, refl, sym, subst, arith}
 use Rattle.std.specs.Prelude.{◌≢◌, slice_get, IfSome}
 use Rattle.std.specs.Option.{option_or, option_and_then}
+use Rattle.stx_scenario.specs.Memory.{no_memory}
 use Rattle.stx_scenario.specs.declared.numbers.MethodNo.{MethodNo}
 use Rattle.stx_scenario.specs.declared.scenario.Scenario.{Scenario}
 use Rattle.stx_scenario.specs.declared.scenario.Bean.{Bean}
@@ -19,11 +20,11 @@ pub in_order : (S : Scenario) → IsValid S → IsInOrder S
 in_order S valid = valid_is_in_order S valid
 
 -- its call graph is refused for want of memory alone
-pub only_memory : (S : Scenario) (fault : GraphFault) → IsInOrder S → IsDue S fault → fault ≢ GraphFault.NoMemory → ⊥
+pub only_memory : (S : Scenario) (fault : GraphFault) → IsInOrder S → IsDue S fault → fault ≢ GraphFault.NoMemory no_memory → ⊥
 only_memory S (GraphFault.CallCycle m) order due other = order.acyclic m due.here.method due.here.cycle
 only_memory S (GraphFault.TooDeep m) order due other = absurd (omega (arith, due.1.here.deep, order.shallow m due.1.here.method))
 only_memory S GraphFault.TooLarge order due other = absurd (omega (arith, due.2, order.light))
-only_memory S GraphFault.NoMemory order due other = other refl
+only_memory S (GraphFault.NoMemory _) order due other = other refl
 
 -- ---- each attribute has few rules
 

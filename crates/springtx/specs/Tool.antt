@@ -3,6 +3,7 @@ use Rattle.std.specs.Prelude.{◌≡◌, ◌⊎◌, ◌==◌, ℕ, ◌≤◌, Bo
 use Rattle.std.specs.Option.{option_map}
 use Rattle.std.specs.List.{list_any}
 use Rattle.std.specs.declared.alloc.Global.{Global}
+use Rattle.stx_scenario.specs.declared.limits.TheConstants.{MOST_INPUT_BYTES}
 use Rattle.stx_scenario.specs.declared.scenario.Scenario.{Scenario}
 use Rattle.stx_base.specs.declared.outcome.Outcome.{Outcome}
 use Rattle.stx_base.specs.declared.outcome.Report.{Report}
@@ -21,10 +22,6 @@ use Rattle.stx_words.specs.declared.job.Job.{Job}
 use Rattle.stx_words.specs.Jobs.{job_of}
 use Rattle.springtx.specs.declared.answer.Answer.{Answer}
 use Rattle.springtx.specs.NotYet.{not_yet, not_yet_text}
-
--- the most bytes that a scenario may have
-abbrev pub most_bytes : ℕ
-most_bytes = 1048576
 
 -- each end has one of these statuses
 abbrev pub is_status : ℕ → Bool
@@ -108,7 +105,7 @@ pub record IsAnswered (words : List (String Global)) (left_before left_now : Opt
   pub stated : job_of words ≡ Some job
   pub bytes : List ℕ
   pub read : LosesAll left_before left_now bytes
-  pub within : length bytes ≤ most_bytes
+  pub within : length bytes ≤ MOST_INPUT_BYTES
   pub answered : Answered job bytes
 
 -- done or refused, and written in part
@@ -119,5 +116,5 @@ IsCutShort Wrote report job bytes = IsDone Wrote report job bytes ⊎ IsRefused 
 pub record IsAccepted (words : List (String Global)) (input : List ℕ) : Type 0 where
   pub job : Job
   pub stated : job_of words ≡ Some job
-  pub within : length input ≤ most_bytes
+  pub within : length input ≤ MOST_INPUT_BYTES
   pub accepted : refusal_of job input ≡ None

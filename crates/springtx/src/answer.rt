@@ -1,5 +1,6 @@
 // The text that answers a job and a scenario's bytes, made whole before anything is written.
 ghost use Rattle.std.specs.Prelude.{◌≡◌, ◌≢◌, IfOk, OnOk, None, true};
+ghost use Rattle.stx_scenario.specs.Memory.{no_memory};
 ghost use Rattle.stx_model.specs.Faithful.{Faithful};
 ghost use Rattle.stx_base.specs.Report.{printed};
 ghost use Rattle.stx_base.specs.RulesText.{rules_text as text_of_rules};
@@ -103,17 +104,17 @@ fn weight_of(alloc: Global, scenario: &Scenario) -> Result<u64, NoMemory>
         Err(GraphFault::CallCycle(_)) => unreachable!(),
         Err(GraphFault::TooDeep(_)) => unreachable!(),
         Err(GraphFault::TooLarge) => unreachable!(),
-        Err(GraphFault::NoMemory) => Err(NoMemory),
+        Err(GraphFault::NoMemory(refused)) => Err(refused),
     }
 }
 
 /// The text of a refusal. For want of memory there is none.
 fn refusal(alloc: Global, fault: &ReadFault) -> Result<Vec<u8>, NoMemory>
     ensures text { IfOk result (λ text. text.items ≡ text_of_refusal fault.now) }
-    ensures refused { OnOk result (fault.now ≢ ReadFault.NoMemory) }
+    ensures refused { OnOk result (fault.now ≢ ReadFault.NoMemory no_memory) }
 {
-    if let ReadFault::NoMemory = fault {
-        return Err(NoMemory);
+    if let ReadFault::NoMemory(refused) = fault {
+        return Err(*refused);
     }
     refusal_text(alloc, fault)
 }

@@ -1,17 +1,16 @@
 // The tool, over any source and any sink.
 ghost use Rattle.std.specs.Prelude.{◌≡◌, ◌≢◌, ◌⊎◌, List, ℕ, IsTrue, None, Some, IsNone};
+ghost use Rattle.stx_scenario.specs.declared.limits.TheConstants.{MOST_INPUT_BYTES as MostBytes};
 ghost use Rattle.stx_outside.specs.Streams.{Rose, GainsEnd, GainsPrefix, LosesMore, LosesWithin};
 ghost use Rattle.stx_words.specs.Jobs.{job_of};
-ghost use Rattle.springtx.specs.Tool.{is_status, is_early, most_bytes, IsAnswered, IsDone, IsRefused, IsCutShort, IsAccepted};
+ghost use Rattle.springtx.specs.Tool.{is_status, is_early, IsAnswered, IsDone, IsRefused, IsCutShort, IsAccepted};
 
 use crate::answer::{Answer, answer_to};
 use std::alloc::Global;
 use stx_base::{Report, ToolEnd};
 use stx_outside::{ReadEnd, Sink, Source, read_whole, write_whole};
+use stx_scenario::{MOST_INPUT_BYTES, NoMemory};
 use stx_words::{WordsFault, read_words};
-
-/// The most bytes that a scenario may have.
-const MOST_BYTES: usize = 1_048_576;
 
 const DONE: u8 = 0;
 
@@ -31,7 +30,7 @@ const TOO_LONG: u8 = 7;
 /// nobody.
 ///
 /// The whole text is made before the first write. The statuses of the end are those of `ToolEnd`.
-#[tactic(auto, using(crate::proofs::ToolLaws::all_within))]
+#[tactic(auto, using(crate::proofs::ToolLaws::none_within))]
 pub fn tool<S: Source, K: Sink>(
     alloc: Global,
     words: &[String],
@@ -49,8 +48,9 @@ pub fn tool<S: Source, K: Sink>(
     ensures unstated { IsNone (job_of words.now) → (result.status ≡ 2) ⊎ (result.status ≡ 6) }
     ensures unread { result.status ≡ 2 → source.new ≡ source.old }
 
-    // 3: a read failed.
+    // 3: a read failed, and at every other end none did.
     ensures read_fault { result.status ≡ 3 → Rose (S.faults source.old) (S.faults source.new) }
+    ensures read_well { result.status ≢ 3 → S.faults source.new ≡ S.faults source.old }
 
     // 4: the bytes state no valid scenario, or one that isn't played yet.
     ensures refused { result.status ≡ 4 → IsAnswered words.now (S.left source.old) (S.left source.new)
@@ -61,13 +61,11 @@ pub fn tool<S: Source, K: Sink>(
     ensures cut_short { result.status ≡ 5 → IsAnswered words.now (S.left source.old) (S.left source.new)
         (IsCutShort (GainsPrefix (K.taken sink.old) (K.taken sink.new)) result.report) }
 
-    // 6: memory ran out, before more bytes came than a scenario may have.
-    ensures want { result.status ≡ 6 → LosesWithin most_bytes (S.left source.old) (S.left source.new) }
+    // 7: exactly where more bytes came than a scenario may have.
+    ensures too_long { result.status ≡ 7 → LosesMore MostBytes (S.left source.old) (S.left source.new) }
+    ensures no_longer { result.status ≢ 7 → LosesWithin MostBytes (S.left source.old) (S.left source.new) }
 
-    // 7: more bytes came than a scenario may have.
-    ensures too_long { result.status ≡ 7 → LosesMore most_bytes (S.left source.old) (S.left source.new) }
-
-    // 2, 3, 6 and 7 come before anything is written.
+    // 2, 3, 6 for want of memory, and 7 come before anything is written.
     ensures nothing { IsTrue (is_early result.status) → K.taken sink.new ≡ K.taken sink.old }
     ensures unreported { IsTrue (is_early result.status) → result.report ≡ None }
 
@@ -79,13 +77,13 @@ pub fn tool<S: Source, K: Sink>(
     let job = match read_words(alloc, words) {
         Ok(job) => job,
         Err(WordsFault::Usage) => return early(USAGE),
-        Err(WordsFault::NoMemory) => return early(WANT_OF_MEMORY),
+        Err(WordsFault::NoMemory(refused)) => return without_memory(refused),
     };
-    let bytes = match read_whole(alloc, source, MOST_BYTES) {
+    let bytes = match read_whole(alloc, source, MOST_INPUT_BYTES) {
         Ok(bytes) => bytes,
         Err(ReadEnd::Fault) => return early(READ_FAULT),
         Err(ReadEnd::TooLong) => return early(TOO_LONG),
-        Err(ReadEnd::NoMemory) => return early(WANT_OF_MEMORY),
+        Err(ReadEnd::NoMemory(refused)) => return without_memory(refused),
     };
     match answer_to(alloc, job, &bytes) {
         Ok(Answer::Done(report, text)) => ToolEnd {
@@ -96,7 +94,7 @@ pub fn tool<S: Source, K: Sink>(
             status: written(sink, &text, REFUSED),
             report: None,
         },
-        Err(_) => early(WANT_OF_MEMORY),
+        Err(refused) => without_memory(refused),
     }
 }
 
@@ -112,6 +110,13 @@ fn written<K: Sink>(sink: &mut K, text: &[u8], status: u8) -> u8
         Ok(()) => status,
         Err(_) => WRITE_FAULT,
     }
+}
+
+/// The end for want of memory, which wants a refused growth.
+fn without_memory(_: NoMemory) -> ToolEnd
+    ensures { result ≡ record { status = 6; report = None } }
+{
+    early(WANT_OF_MEMORY)
 }
 
 /// An end before anything is written.
