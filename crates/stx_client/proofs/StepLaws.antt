@@ -25,7 +25,7 @@ use Rattle.stx_model.specs.Flat.{IsFlat, IsFlatAttribute, HasFlatAttribute, defa
 use Rattle.stx_client.specs.declared.stage.Scope.{Scope}
 use Rattle.stx_client.specs.declared.stage.Then.{Then}
 use Rattle.stx_client.specs.declared.stage.Stage.{Stage}
-use Rattle.stx_client.specs.Machine.{state, attribute_of, call_line, scope_context, access_in, does, ending, ends_with, goes_on, means, tops_from, later_calls}
+use Rattle.stx_client.specs.inner.Machine.{state, attribute_of, call_line, scope_context, access_in, does, ending, ends_with, goes_on, means, tops_from, later_calls}
 
 -- ---- lists by place
 

@@ -1,5 +1,3 @@
-pub mod Machine
-pub mod Holding
 pub mod View
-pub mod Keeps
 pub mod Fixture
+pub mod inner

@@ -6,7 +6,7 @@ ghost use Rattle.stx_client.specs.declared.stage.Stage.{Stage as StageData};
 ghost use Rattle.stx_client.specs.declared.stage.Then.{Then as ThenData};
 ghost use Rattle.stx_model.specs.Flat.{IsFlat, is_flat};
 ghost use Rattle.stx_model.specs.Script.{value_of as value_in};
-ghost use Rattle.stx_client.specs.Machine.{Comes, IsIn, IsMethod, access_in, goes_on, hears, sum_of};
+ghost use Rattle.stx_client.specs.inner.Machine.{Comes, IsIn, IsMethod, access_in, goes_on, hears, sum_of};
 
 use crate::ending::{ended, thrown};
 use crate::setup::Setup;

@@ -1,2 +1,3 @@
-pub mod Playing
+pub mod Play
 pub mod Fixture
+pub mod inner

@@ -3,7 +3,7 @@ use Rattle.std.proofs.Common.{◌≡◌, ◌∙◌, ◌++◌, [], false, None, s
 use Rattle.stx_model.specs.Contexts.{bare}
 use Rattle.stx_model.specs.Meanings.{state_of}
 use Rattle.stx_model.specs.Script.{script}
-use Rattle.stx_client.specs.Machine.{state, tops_from}
+use Rattle.stx_client.specs.inner.Machine.{state, tops_from}
 use Rattle.stx_client.proofs.ClientLaws.{RunsOn, stops_now, reads_now, starts_now}
 use Rattle.stx_client.proofs.HoldingLaws.{between_ok, between_connection, between_session}
 use Rattle.stx_client.proofs.client.Client.new.Goals as goal
