@@ -1,11 +1,17 @@
 // Steps from a class up to those above it, and the classes that make no tree.
 ghost use Rattle.std.specs.Prelude.{◌≡◌, ◌<◌, ◌^◌, length};
+ghost use Rattle.stx_classes.specs.Flaws.{has_flaw};
 ghost use Rattle.stx_base.specs.Classes.{number_above, parent_in, depth_in, has_unknown_parent, is_own_ancestor, is_too_deep, first_class};
 
-use stx_scenario::{ClassNo, THROWABLE};
+use stx_scenario::{ClassNo, DEEPEST_CLASS, THROWABLE};
 
-/// The most steps that a class may be below `Throwable`.
-const DEEPEST: u32 = 64;
+/// What keeps a class, and so all of them, from standing in a tree.
+#[derive(Clone, Copy)]
+pub(crate) enum Flaw {
+    UnknownParent,
+    OwnAncestor,
+    TooDeep,
+}
 
 /// The class above; `None` for a number out of range too.
 fn parent_in(parents: &[Option<ClassNo>], class: ClassNo) -> Option<ClassNo>
@@ -59,41 +65,29 @@ fn is_too_deep(parents: &[Option<ClassNo>], class: ClassNo) -> bool
     ensures { result ≡ is_too_deep parents.now class.0 }
 {
     match steps_between(parents, class, THROWABLE) {
-        Some(steps) => steps > DEEPEST,
+        Some(steps) => steps > DEEPEST_CLASS,
         None => false,
     }
 }
 
-pub(crate) fn first_unknown_parent(parents: &[Option<ClassNo>]) -> Option<ClassNo>
+fn has_flaw(parents: &[Option<ClassNo>], flaw: Flaw, class: ClassNo) -> bool
     requires { length parents.now < 2 ^ 32 }
-    ensures { number_above result ≡ first_class parents.now (has_unknown_parent parents.now) }
+    ensures { result ≡ has_flaw flaw parents.now class.0 }
 {
-    for number in 0..parents.len() as u32 {
-        if has_unknown_parent(parents, ClassNo(number)) {
-            return Some(ClassNo(number));
-        }
+    match flaw {
+        Flaw::UnknownParent => has_unknown_parent(parents, class),
+        Flaw::OwnAncestor => is_own_ancestor(parents, class),
+        Flaw::TooDeep => is_too_deep(parents, class),
     }
-    None
 }
 
-pub(crate) fn first_own_ancestor(parents: &[Option<ClassNo>]) -> Option<ClassNo>
+/// The first class, in the order of the numbers, that has the flaw.
+pub(crate) fn first_with(parents: &[Option<ClassNo>], flaw: Flaw) -> Option<ClassNo>
     requires { length parents.now < 2 ^ 32 }
-    ensures { number_above result ≡ first_class parents.now (is_own_ancestor parents.now) }
+    ensures { number_above result ≡ first_class parents.now (has_flaw flaw parents.now) }
 {
     for number in 0..parents.len() as u32 {
-        if is_own_ancestor(parents, ClassNo(number)) {
-            return Some(ClassNo(number));
-        }
-    }
-    None
-}
-
-pub(crate) fn first_too_deep(parents: &[Option<ClassNo>]) -> Option<ClassNo>
-    requires { length parents.now < 2 ^ 32 }
-    ensures { number_above result ≡ first_class parents.now (is_too_deep parents.now) }
-{
-    for number in 0..parents.len() as u32 {
-        if is_too_deep(parents, ClassNo(number)) {
+        if has_flaw(parents, flaw, ClassNo(number)) {
             return Some(ClassNo(number));
         }
     }

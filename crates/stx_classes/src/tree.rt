@@ -5,7 +5,7 @@ ghost use Rattle.stx_base.specs.Classes.{parents_of, depth_in, is_below_in, IsTr
 ghost use Rattle.stx_classes.specs.Tree.{IsDue};
 
 use crate::ClassFault;
-use crate::steps::{first_own_ancestor, first_too_deep, first_unknown_parent, steps_between};
+use crate::steps::{Flaw, first_with, steps_between};
 use std::alloc::Global;
 use std::marker::Model;
 use stx_scenario::{ClassDecl, ClassNo, List, NoMemory};
@@ -37,13 +37,13 @@ impl ClassTree {
         ensures refused { IfErr result (λ fault. IsDue classes.now fault) }
     {
         let parents = parents_of(alloc, classes)?;
-        if let Some(class) = first_unknown_parent(&parents) {
+        if let Some(class) = first_with(&parents, Flaw::UnknownParent) {
             return Err(ClassFault::UnknownParent(class));
         }
-        if let Some(class) = first_own_ancestor(&parents) {
+        if let Some(class) = first_with(&parents, Flaw::OwnAncestor) {
             return Err(ClassFault::Cycle(class));
         }
-        if let Some(class) = first_too_deep(&parents) {
+        if let Some(class) = first_with(&parents, Flaw::TooDeep) {
             return Err(ClassFault::TooDeep(class));
         }
         Ok(ClassTree { parents })

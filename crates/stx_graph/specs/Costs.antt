@@ -1,5 +1,6 @@
 -- Costs that stop at a cap, above which they don't matter, and costs by rounds.
-use Rattle.std.specs.Prelude.{◌≡◌, ℕ, ◌<◌, List, length, map, min, slice_index_or}
+use Rattle.std.specs.Prelude.{◌≡◌, ℕ, ◌+◌, ◌<◌, List, length, map, min, slice_index_or}
+use Rattle.stx_scenario.specs.declared.limits.TheConstants.{GREATEST_WEIGHT}
 use Rattle.stx_scenario.specs.declared.numbers.MethodNo.{MethodNo}
 use Rattle.stx_scenario.specs.declared.numbers.EventNo.{EventNo}
 use Rattle.stx_scenario.specs.declared.scenario.Scenario.{Scenario}
@@ -9,7 +10,7 @@ use Rattle.stx_base.specs.Weight.{no_cost, one, one_registered, plus, total, lis
 
 -- one more than the greatest weight that a scenario may have
 abbrev pub cap : ℕ
-cap = 200001
+cap = GREATEST_WEIGHT + 1
 
 abbrev pub capped : Cost → Cost
 capped c = record { size = min c.size cap; registrations = min c.registrations cap }

@@ -1,6 +1,7 @@
 -- What a graph tells of its scenario, and when a scenario is refused.
 use Rattle.std.specs.Prelude.{◌≡◌, ℕ, ◌<◌, ◌≤◌, List, length, map}
 use Rattle.std.specs.List.{range_with_len}
+use Rattle.stx_scenario.specs.declared.limits.TheConstants.{GREATEST_RANK, GREATEST_WEIGHT}
 use Rattle.stx_scenario.specs.declared.numbers.MethodNo.{MethodNo}
 use Rattle.stx_scenario.specs.declared.scenario.Scenario.{Scenario}
 use Rattle.stx_base.specs.Weight.{Next, leads, IsOnCycle, above, rank, body_of, body_cost, cost, weight}
@@ -21,10 +22,10 @@ pub record LeadsToItself (S : Scenario) (m : MethodNo) : Type 0 where
   pub method : m.0 < length S.methods
   pub cycle : IsOnCycle (leads S) m
 
--- a method of the scenario whose rank is over 64
+-- a method of the scenario whose rank is too great
 pub record IsTooDeep (S : Scenario) (m : MethodNo) : Type 0 where
   pub method : m.0 < length S.methods
-  pub deep : 64 < rank S m
+  pub deep : GREATEST_RANK < rank S m
 
 abbrev pub NoCycle : Scenario → Type 0
 NoCycle S = (m : MethodNo) → ¬ (LeadsToItself S m)
@@ -36,7 +37,7 @@ NoneTooDeep S = (m : MethodNo) → ¬ (IsTooDeep S m)
 pub record IsAccepted (S : Scenario) : Type 0 where
   pub no_cycle : NoCycle S
   pub none_too_deep : NoneTooDeep S
-  pub light : weight S ≤ 200000
+  pub light : weight S ≤ GREATEST_WEIGHT
   pub ranks : (m : MethodNo) → m.0 < length S.methods → rank S m ≡ above (map (rank S) (leads S m))
   pub costs : (m : MethodNo) → m.0 < length S.methods → cost S m ≡ body_cost S (cost S) (body_of S m)
 
@@ -45,7 +46,7 @@ pub record IsAccepted (S : Scenario) : Type 0 where
 abbrev pub IsDue : Scenario → GraphFault → Type 0
 IsDue S (GraphFault.CallCycle m) = IsFirst (LeadsToItself S) m
 IsDue S (GraphFault.TooDeep m) = NoCycle S × IsFirst (IsTooDeep S) m
-IsDue S GraphFault.TooLarge = NoCycle S × NoneTooDeep S × (200000 < weight S)
+IsDue S GraphFault.TooLarge = NoCycle S × NoneTooDeep S × (GREATEST_WEIGHT < weight S)
 IsDue S (GraphFault.NoMemory _) = Unit {0}
 
 -- the fault where this is the first method from which a way is too long: a cycle's first method comes before it

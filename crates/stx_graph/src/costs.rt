@@ -4,10 +4,7 @@ ghost use Rattle.stx_base.specs.Weight.{no_cost, one, plus, total, callback_cost
 ghost use Rattle.stx_graph.specs.Costs.{added, capped, cost_at, statement_at};
 
 use stx_base::Cost;
-use stx_scenario::{Listener, MethodNo, Stmt, SyncDecl};
-
-/// The greatest weight that a scenario may have.
-pub(crate) const GREATEST_WEIGHT: u64 = 200_000;
+use stx_scenario::{GREATEST_WEIGHT, Listener, MethodNo, Stmt, SyncDecl};
 
 /// Where costs stop: a body that costs more is too heavy, however much more that is.
 pub(crate) const CAP: u64 = GREATEST_WEIGHT + 1;

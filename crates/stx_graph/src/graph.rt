@@ -4,14 +4,13 @@ ghost use Rattle.stx_base.specs.Weight.{InRange};
 ghost use Rattle.stx_graph.specs.Rows.{RowsInRange, next_in};
 ghost use Rattle.stx_graph.specs.Graph.{weighed, IsAccepted, IsDue, IsDepthFault};
 
-use crate::costs::GREATEST_WEIGHT;
 use crate::cycles::first_on_cycle;
 use crate::ranks::{first_too_deep, longest_ways};
 use crate::rows::{Rows, method_rows};
 use crate::weighing::capped_weight;
 use std::alloc::Global;
 use std::marker::Model;
-use stx_scenario::{List, MethodNo, NoMemory, Scenario};
+use stx_scenario::{GREATEST_WEIGHT, List, MethodNo, NoMemory, Scenario};
 
 /// The ranks of a scenario's methods and its weight, in which no method leads to itself or stands too deep, and which
 /// isn't too heavy.

@@ -7,13 +7,10 @@ ghost use Rattle.stx_graph.specs.Ranks.{raised, rank_at, AreLongest, IsFirst};
 
 use crate::rows::Rows;
 use std::alloc::Global;
-use stx_scenario::{List, MethodNo, NoMemory};
-
-/// The greatest rank that a method may have.
-pub(crate) const DEEPEST: u32 = 64;
+use stx_scenario::{GREATEST_RANK, List, MethodNo, NoMemory};
 
 /// How many rounds tell a rank that a method may have from a greater one.
-pub(crate) const ROUNDS: u32 = DEEPEST + 1;
+pub(crate) const ROUNDS: u32 = GREATEST_RANK + 1;
 
 /// The steps of the longest way from each method, up to one more than a method may have.
 pub(crate) fn longest_ways(alloc: Global, rows: &Rows) -> Result<List<u32>, NoMemory>
@@ -58,7 +55,7 @@ pub(crate) fn first_too_deep(ranks: &[u32]) -> Option<MethodNo>
     ensures { MatchOption result (All (λ rank. rank ≤ 64) ranks.now) (λ m. IsFirst (λ m. 64 < rank_at ranks.now m) m) }
 {
     for (number, rank) in ranks.iter().enumerate() {
-        if *rank > DEEPEST {
+        if *rank > GREATEST_RANK {
             return Some(MethodNo(number as u32));
         }
     }

@@ -2,8 +2,8 @@ pub mod Begins
 pub mod Closing
 pub mod Ending
 pub mod Joining
+pub mod OneSeat
 pub mod Seats
 pub mod Splitting
 pub mod Starting
-pub mod TwoSeats
 pub mod Winning

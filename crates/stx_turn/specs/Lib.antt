@@ -1,6 +1,4 @@
 pub mod Histories
-pub mod NoteLaws
-pub mod Notes
 pub mod Rule
 pub mod Seats
 pub mod Steps

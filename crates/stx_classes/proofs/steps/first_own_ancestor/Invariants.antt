@@ -1,9 +1,0 @@
--- The first class that passes is still to come.
-use Rattle.std.proofs.Common.{◌≡◌, ◌-◌, length}
-use Rattle.std.specs.List.{find, range_with_len}
-use Rattle.stx_base.specs.Classes.{first_class, is_own_ancestor}
-use Rattle.stx_classes.proofs.steps.first_own_ancestor.Given as goal
-
-abbrev pub invariant-loop-number : goal.invariant-loop-number
-invariant-loop-number l =
-    first_class l.parents (is_own_ancestor l.parents) ≡ find (is_own_ancestor l.parents) (range_with_len l.number (length l.parents - l.number))

@@ -1,9 +1,0 @@
-use Rattle.std.proofs.Common.{length, sym, ◌∙◌}
-use Rattle.stx_base.specs.Classes.{has_unknown_parent}
-use Rattle.stx_classes.proofs.SearchLaws.{not_here}
-use Rattle.stx_classes.proofs.steps.first_unknown_parent.Goals as goal
-
-pub loop-number-preserved : goal.loop-number-preserved
-loop-number-preserved c =
-    let P = c.args.parents.now in
-    c.loop-number.invariant ∙ not_here (has_unknown_parent P) c.loop-number.number (length P) c.loop-number-test.true (sym c.if-has_unknown_parent.ensures)
