@@ -26,7 +26,7 @@ def repeat(count, text, before=""):
     return before + text * int(count)
 
 
-def as_bytes(digits):
+def bytes_of(digits):
     """The bytes that these hexadecimal digits say."""
     return bytes.fromhex(digits)
 
@@ -213,19 +213,15 @@ def many_turns(count):
     return "schedule=" + array("0" for _ in range(int(count))) + "\n" + methods([method("m", ["write a 1"])], ["b.m"])
 
 
-KINDS = {
-    "repeat": repeat, "bytes": as_bytes, "entries": entries, "long_name": long_name,
-    "marks": marks, "class_chain": class_chain,
-    "class_ring": class_ring, "call_chain": call_chain, "call_graph": call_graph, "heavy_calls": heavy_calls,
-    "largest": largest, "wide_rules": wide_rules, "new_rows": new_rows, "many_keys": many_keys,
-    "many_empty_rows": many_empty_rows, "many_turns": many_turns, "wide_rules_text": wide_rules_text,
-    "additions": additions, "additions_text": additions_text,
-}
+KINDS = [
+    repeat, bytes_of, entries, long_name, marks, class_chain, class_ring, call_chain, call_graph, heavy_calls, largest,
+    wide_rules, wide_rules_text, new_rows, many_keys, many_empty_rows, additions, additions_text, many_turns,
+]
 
 
 def main():
     kind, *arguments = sys.argv[1:]
-    made = KINDS[kind](*arguments)
+    made = {known.__name__: known for known in KINDS}[kind](*arguments)
     sys.stdout.buffer.write(made.encode() if isinstance(made, str) else made)
 
 

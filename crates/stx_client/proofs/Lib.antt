@@ -4,4 +4,3 @@ pub mod SumLaws
 pub mod ClientLaws
 pub mod HoldingLaws
 pub mod ReplyLaws
-pub mod FixtureLaws

@@ -1,4 +1,3 @@
 pub mod Machine
 pub mod Holding
 pub mod View
-pub mod Fixture

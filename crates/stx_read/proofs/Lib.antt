@@ -10,7 +10,6 @@ pub mod SearchLaws
 pub mod ParentLaws
 pub mod CallLaws
 pub mod JudgeLaws
-pub mod ShapeLaws
 pub mod RowLaws
 pub mod PathLaws
 pub mod SentenceLaws

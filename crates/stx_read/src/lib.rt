@@ -29,6 +29,3 @@ pub use path::{entry, under};
 pub use read::read_scenario;
 pub use schema::{Field, Kind, Leaf, Shape};
 pub use sentence::{Matched, RuleSentence, Sentence};
-
-#[cfg(test)]
-mod tests;
