@@ -10,6 +10,7 @@ pub mod SearchLaws
 pub mod ParentLaws
 pub mod CallLaws
 pub mod JudgeLaws
+pub mod ShapeLaws
 pub mod RowLaws
 pub mod PathLaws
 pub mod SentenceLaws
