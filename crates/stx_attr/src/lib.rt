@@ -4,6 +4,3 @@
 mod attributes;
 
 pub use attributes::Attributes;
-
-#[cfg(test)]
-mod tests;

@@ -9,6 +9,3 @@ mod tree;
 pub use fault::ClassFault;
 pub use laws::{below_is_a_way, depth_is_fewest, own_ancestor_is_a_way, tree_reaches_throwable};
 pub use tree::ClassTree;
-
-#[cfg(test)]
-mod tests;

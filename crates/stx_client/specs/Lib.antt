@@ -1,3 +1,2 @@
 pub mod View
-pub mod Fixture
 pub mod inner

@@ -13,6 +13,3 @@ mod turns;
 
 pub use client::Client;
 pub use setup::Setup;
-
-#[cfg(test)]
-mod tests;

@@ -10,6 +10,3 @@ mod rows;
 mod weighing;
 
 pub use graph::{Graph, GraphFault};
-
-#[cfg(test)]
-mod tests;

@@ -8,6 +8,3 @@ mod turn;
 
 pub use played::Played;
 pub use schedule::play;
-
-#[cfg(test)]
-mod tests;

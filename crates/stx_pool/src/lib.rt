@@ -4,6 +4,3 @@
 mod pool;
 
 pub use pool::PoolCore;
-
-#[cfg(test)]
-mod tests;

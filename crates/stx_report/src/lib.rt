@@ -17,6 +17,3 @@ pub use check::check_text;
 pub use refusal::refusal_text;
 pub use report::print;
 pub use rules::rules_text;
-
-#[cfg(test)]
-mod tests;

@@ -7,6 +7,3 @@ mod laws;
 
 pub use decision::{Decision, decide};
 pub use laws::winner_is_nearest;
-
-#[cfg(test)]
-mod tests;

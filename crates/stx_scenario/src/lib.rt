@@ -33,6 +33,3 @@ pub use scenario::{
     Bean, Calls, ClassDecl, Listener, Method, Phase, Propagation, Rule, RuleBy, Scenario, Settings,
     Stmt, SyncDecl, SyncMode, TxAttr,
 };
-
-#[cfg(test)]
-mod tests;

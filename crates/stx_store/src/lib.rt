@@ -10,6 +10,3 @@ mod store;
 
 pub use rows::row_after;
 pub use store::StoreCore;
-
-#[cfg(test)]
-mod tests;

@@ -10,6 +10,3 @@ pub use history::History;
 pub use lines::push_line;
 pub use names::{class_name, method_name};
 pub use words::decision_word;
-
-#[cfg(test)]
-mod tests;

@@ -10,6 +10,3 @@ mod options;
 pub use command::read_words;
 pub use fault::WordsFault;
 pub use job::Job;
-
-#[cfg(test)]
-mod tests;
