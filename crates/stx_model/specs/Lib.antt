@@ -1,5 +1,12 @@
+pub mod Orders
 pub mod Contexts
+pub mod Opening
+pub mod Ending
+pub mod Listeners
 pub mod Meanings
+pub mod Statements
+pub mod Rounds
+pub mod Scopes
 pub mod Script
 pub mod Flat
 pub mod Played

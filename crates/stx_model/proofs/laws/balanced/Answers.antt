@@ -1,5 +1,0 @@
-use Rattle.stx_model.proofs.ProperLaw.{balanced}
-use Rattle.stx_model.proofs.laws.balanced.Goals as goal
-
-pub returns : goal.returns
-returns c = balanced
