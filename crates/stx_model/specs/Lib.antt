@@ -13,3 +13,4 @@ pub mod Played
 pub mod Faithful
 pub mod Reads
 pub mod Laws
+pub mod Assurances

@@ -1,5 +1,6 @@
 // The laws of the definitions, each carried by the contract of a function that does nothing.
 ghost use Rattle.stx_model.specs.Laws.{JournalIsSerial, OwnNotesFresh};
+ghost use Rattle.stx_model.specs.Assurances.{JoinedScopesOnlyMark, RequiresNewStandsApart};
 
 /// The store's journal is a serial order. Take any legal history of the store, and run the committed transactions and
 /// the own statements alone, one after the other, in the order of the journal: each finds exactly the answers that it
@@ -12,4 +13,18 @@ pub fn journal_is_serial()
 /// legal history of the store none begins a transaction number twice.
 pub fn own_notes_fresh()
     ensures { OwnNotesFresh }
+{}
+
+/// A joined scope only marks. Between its `end` line and its `leave` line a scope that takes part in the transaction of
+/// another says nothing but that it marks it for rollback, and that only where its ending isn't commit; it throws nothing
+/// of its own, and leaves with what its body threw (`AbstractPlatformTransactionManager.processRollback`,
+/// `setGlobalRollbackOnParticipationFailure`).
+pub fn joined_scopes_only_mark()
+    ensures { JoinedScopesOnlyMark }
+{}
+
+/// `requires_new` stands apart. However a call with this propagation ends, the transaction round it has the mark and the
+/// registrations that it had, and so has the scope round it its local mark, whatever the called methods did.
+pub fn requires_new_stands_apart()
+    ensures { RequiresNewStandsApart }
 {}
