@@ -1,6 +1,6 @@
 -- A scope that gives its older context back leaves it as it was; a joined scope only marks.
 use Rattle.std.proofs.Common.{◌≡◌, ℕ, Bool, true, false, List, [], ◌∷◌, ◌++◌, Option, Some, None, refl, sym, ap, ◌∙◌, subst, append_assoc, append-nil}
-use Rattle.std.specs.Prelude.{⊤}
+use Rattle.std.specs.Prelude.{⊤, ◌||◌}
 use Rattle.stx_scenario.specs.declared.numbers.ClassNo.{ClassNo}
 use Rattle.stx_scenario.specs.declared.numbers.MethodNo.{MethodNo}
 use Rattle.stx_scenario.specs.declared.scenario.Scenario.{Scenario}
@@ -80,7 +80,7 @@ say_each_keeps line [] st = (refl, refl)
 say_each_keeps line (l ∷ ls) st = say_each_keeps line ls (say (line l) st)
 
 -- the context is the older one, and the local mark as it was
-abbrev Apart : Context → Option Bool → Option ClassNo → State → Type 0
+abbrev pub Apart : Context → Option Bool → Option ClassNo → State → Type 0
 Apart older outer x after = (after.context ≡ older) × (after.local ≡ outer)
 
 bind_keeps : (older : Context) (tx : Option Live) (st : State) → (say_bind tx (with_context older st)).context ≡ older
@@ -173,6 +173,36 @@ module _ (S : Scenario) (calls : Calls) (scope : Scope) (older : Context) (is_ol
         | true ↦ finally (round_of scope.owns (stopping_round S calls Round.BeforeCommit) st) (λ y. acts S calls scope (completion_after k Ending.Unexpected y) (later_or y x))
         | false ↦ acts S calls scope (completion k Ending.Unexpected) x st
       ]) (Apart older scope.outer)) (sym fresh) (completion_gives Ending.Unexpected x st)
+
+  empty_commits : Gives (completion Kind.Empty Ending.Commit)
+  unfolding completion
+  empty_commits = before_completion _ (after_commit _ (after_completion true _ resumes))
+
+  empty_rolls_back : Gives (completion Kind.Empty Ending.Rollback)
+  unfolding completion
+  empty_rolls_back = before_completion _ (after_completion false _ resumes)
+
+  -- an empty scope that suspended something, however it ends
+  pub completes_empty : scope.kind ≡ Kind.Empty → (rolled local : Bool) (x : Option ClassNo) (context : Context) (st : State)
+      → AtEnd (completes S calls scope (ending Kind.Empty rolled local context) x st) (Apart older scope.outer)
+  unfolding completes
+  completes_empty empty rolled local x context st =
+      subst (λ k. AtEnd (elim (has_before_commit k (ending Kind.Empty rolled local context)) [
+        | true ↦ finally (round_of scope.owns (stopping_round S calls Round.BeforeCommit) st) (λ y. acts S calls scope (completion_after k (ending Kind.Empty rolled local context) y) (later_or y x))
+        | false ↦ acts S calls scope (completion k (ending Kind.Empty rolled local context)) x st
+      ]) (Apart older scope.outer)) (sym empty) (by (rolled || local))
+    where
+      after_round : (y : Option ClassNo) (after : State) → AtEnd (acts S calls scope (completion_after Kind.Empty Ending.Commit y) (later_or y x) after) (Apart older scope.outer)
+      after_round None after = empty_commits (later_or None x) after
+      after_round (Some y) after = empty_rolls_back (later_or (Some y) x) after
+
+      by : (either : Bool) → AtEnd (elim (has_before_commit Kind.Empty (elim either [ true ↦ Ending.Rollback | false ↦ Ending.Commit ])) [
+        | true ↦ finally (round_of scope.owns (stopping_round S calls Round.BeforeCommit) st)
+            (λ y. acts S calls scope (completion_after Kind.Empty (elim either [ true ↦ Ending.Rollback | false ↦ Ending.Commit ]) y) (later_or y x))
+        | false ↦ acts S calls scope (completion Kind.Empty (elim either [ true ↦ Ending.Rollback | false ↦ Ending.Commit ])) x st
+      ]) (Apart older scope.outer)
+      by true = empty_rolls_back x st
+      by false = finally_at_end (Apart older scope.outer) _ (λ y. acts S calls scope (completion_after Kind.Empty Ending.Commit y) (later_or y x)) after_round
 
 -- ---- requires_new
 

@@ -8,3 +8,6 @@ pub mod Small
 pub mod JoinRows
 pub mod FreshLaw
 pub mod Apart
+pub mod TooLate
+pub mod Keeping
+pub mod Leaving

@@ -1,6 +1,6 @@
 // The laws of the definitions, each carried by the contract of a function that does nothing.
 ghost use Rattle.stx_model.specs.Laws.{JournalIsSerial, OwnNotesFresh};
-ghost use Rattle.stx_model.specs.Assurances.{JoinedScopesOnlyMark, RequiresNewStandsApart};
+ghost use Rattle.stx_model.specs.Assurances.{AfterCommitComesTooLate, AfterCommitThrowsToTheCaller, CallsLeaveTheContext, JoinedScopesOnlyMark, RequiresNewStandsApart};
 
 /// The store's journal is a serial order. Take any legal history of the store, and run the committed transactions and
 /// the own statements alone, one after the other, in the order of the journal: each finds exactly the answers that it
@@ -27,4 +27,25 @@ pub fn joined_scopes_only_mark()
 /// registrations that it had, and so has the scope round it its local mark, whatever the called methods did.
 pub fn requires_new_stands_apart()
     ensures { RequiresNewStandsApart }
+{}
+
+/// An exception of an `after_commit` callback comes too late to undo anything. Where the store committed and a callback of
+/// that round throws, what is left of the scope is its `after_completion` round, which is told committed, the give of its
+/// connection and the resumption of what was suspended (`TransactionSynchronization.afterCommit`: the transaction has been
+/// committed already).
+pub fn after_commit_comes_too_late()
+    ensures { AfterCommitComesTooLate }
+{}
+
+/// And the caller sees it: the call leaves with the class that the `after_commit` callback threw.
+pub fn after_commit_throws_to_the_caller()
+    ensures { AfterCommitThrowsToTheCaller }
+{}
+
+/// Calls leave the context as it was. After a call of a method with an attribute, however it ends, the connection, the
+/// transaction, its mark and the registrations are those before it, but that a joined scope may have marked the
+/// transaction, and that a joined scope, a savepoint (also one that went back) and an empty scope that owns no
+/// synchronisation may have added registrations at the end.
+pub fn calls_leave_the_context()
+    ensures { CallsLeaveTheContext }
 {}

@@ -5,6 +5,7 @@
 mod laws;
 
 pub use laws::{
+    after_commit_comes_too_late, after_commit_throws_to_the_caller, calls_leave_the_context,
     joined_scopes_only_mark, journal_is_serial, own_notes_fresh, requires_new_stands_apart,
 };
 pub use stx_base::{
