@@ -9,7 +9,7 @@ use Rattle.std.proofs.lemmas.List.Sums.{fold-append}
 use Rattle.stx_base.specs.declared.history.PoolEntry.{PoolEntry}
 use Rattle.stx_base.specs.declared.history.StoreNote.{StoreNote}
 use Rattle.stx_base.specs.declared.history.StoreEntry.{StoreEntry}
-pub use Rattle.stx_base.specs.Histories.{total}
+pub use Rattle.stx_base.specs.Histories.{sum_below}
 use Rattle.stx_base.specs.Histories.{pool_notes_of, store_notes, store_notes_of}
 use Rattle.stx_base.specs.Pools.{contains}
 use Rattle.stx_base.specs.Stores.{begun, ends, is_live, pointed, savepoints}
@@ -121,47 +121,47 @@ none_of p (e ∷ H) c h =
 
 -- ---- sums over the numbers below a bound
 
-pub total-same : (n : ℕ) (f g : ℕ → ℕ) → ((i : ℕ) → i < n → g i ≡ f i) → total n g ≡ total n f
-total-same zero f g same = refl
-total-same (suc n) f g same =
-    let rest : total n g ≡ total n f = total-same n f g (λ i h. same i (omega arith)) in
+pub sum_below-same : (n : ℕ) (f g : ℕ → ℕ) → ((i : ℕ) → i < n → g i ≡ f i) → sum_below n g ≡ sum_below n f
+sum_below-same zero f g same = refl
+sum_below-same (suc n) f g same =
+    let rest : sum_below n g ≡ sum_below n f = sum_below-same n f g (λ i h. same i (omega arith)) in
     let last : g n ≡ f n = same n (omega arith) in
     cc
 
 -- two that agree but at one place
-pub total-at : (n : ℕ) (f g : ℕ → ℕ) (c : ℕ) → c < n → ((i : ℕ) → i ≢ c → g i ≡ f i) → total n g + f c ≡ total n f + g c
-total-at zero f g c h same = absurd (omega arith)
-total-at (suc n) f g c h same = elim (cases_eq n c) [
+pub sum_below-at : (n : ℕ) (f g : ℕ → ℕ) (c : ℕ) → c < n → ((i : ℕ) → i ≢ c → g i ≡ f i) → sum_below n g + f c ≡ sum_below n f + g c
+sum_below-at zero f g c h same = absurd (omega arith)
+sum_below-at (suc n) f g c h same = elim (cases_eq n c) [
   | inl e ↦
-      let rest : total n g ≡ total n f = total-same n f g (λ i l. same i (omega arith)) in
+      let rest : sum_below n g ≡ sum_below n f = sum_below-same n f g (λ i l. same i (omega arith)) in
       let here : g n ≡ g c = ap g e in
       let there : f n ≡ f c = ap f e in
       omega arith
   | inr ne ↦
-      let rest : total n g + f c ≡ total n f + g c = total-at n f g c (omega arith) same in
+      let rest : sum_below n g + f c ≡ sum_below n f + g c = sum_below-at n f g c (omega arith) same in
       let last : g n ≡ f n = same n ne in
       omega arith
 ]
 
-total-none : (n : ℕ) → total n (λ c. 0) ≡ 0
-total-none zero = refl
-total-none (suc n) = let rest : total n (λ c. 0) ≡ 0 = total-none n in omega arith
+sum_below-none : (n : ℕ) → sum_below n (λ c. 0) ≡ 0
+sum_below-none zero = refl
+sum_below-none (suc n) = let rest : sum_below n (λ c. 0) ≡ 0 = sum_below-none n in omega arith
 
-pub total-le : (n b : ℕ) (f : ℕ → ℕ) → ((i : ℕ) → i < n → f i ≤ b) → total n f ≤ n * b
-total-le zero b f each = omega arith
-total-le (suc n) b f each =
-    let rest : total n f ≤ n * b = total-le n b f (λ i h. each i (omega arith)) in
+pub sum_below-le : (n b : ℕ) (f : ℕ → ℕ) → ((i : ℕ) → i < n → f i ≤ b) → sum_below n f ≤ n * b
+sum_below-le zero b f each = omega arith
+sum_below-le (suc n) b f each =
+    let rest : sum_below n f ≤ n * b = sum_below-le n b f (λ i h. each i (omega arith)) in
     let last : f n ≤ b = each n (omega arith) in
     omega arith
 
 -- the clients below a count together made the whole, where all entries are of such
-pub length-made : {E N : Type 0} (client : E → ℕ) (note : E → N) (n : ℕ) (H : List E) → All (λ e. client e < n) H → length H ≡ total n (λ c. length (made client note H c))
-length-made client note n [] all = sym (total-none n)
+pub length-made : {E N : Type 0} (client : E → ℕ) (note : E → N) (n : ℕ) (H : List E) → All (λ e. client e < n) H → length H ≡ sum_below n (λ c. length (made client note H c))
+length-made client note n [] all = sym (sum_below-none n)
 length-made client note n (e ∷ H) all =
     let below : client e < n = All-head (λ x. client x < n) e H all in
-    let rest : length H ≡ total n (λ c. length (made client note H c)) = length-made client note n H (All-tail (λ x. client x < n) e H all) in
+    let rest : length H ≡ sum_below n (λ c. length (made client note H c)) = length-made client note n H (All-tail (λ x. client x < n) e H all) in
     let here : length (made client note (e ∷ H) (client e)) ≡ suc (length (made client note H (client e))) = ap (λ b. length (map note (cond b (e ∷ filter (λ x. client x == client e) H) (filter (λ x. client x == client e) H)))) (eq-eqb (client e) (client e) refl) in
     let others : (c : ℕ) → c ≢ client e → length (made client note (e ∷ H) c) ≡ length (made client note H c) =
     λ c differs. ap (λ b. length (map note (cond b (e ∷ filter (λ x. client x == c) H) (filter (λ x. client x == c) H)))) (ne_eqb (client e) c (λ same. differs (sym same))) in
-    let sums = total-at n (λ c. length (made client note H c)) (λ c. length (made client note (e ∷ H) c)) (client e) below others in
+    let sums = sum_below-at n (λ c. length (made client note H c)) (λ c. length (made client note (e ∷ H) c)) (client e) below others in
     omega arith

@@ -1,7 +1,8 @@
 -- The journal in a report: a line for each transaction of the journal, with the number that the store gave its commit.
-use Rattle.std.proofs.Common.{◌≡◌, ℕ, ℤ, suc, ◌+◌, true, false, cond, List, [], ◌∷◌, ◌++◌, length, Some, None, refl, sym, ap, ◌∙◌, arith, append_assoc, append-nil}
+use Rattle.std.proofs.Common.{◌≡◌, ℕ, suc, ◌+◌, true, false, cond, List, [], ◌∷◌, ◌++◌, length, Some, None, refl, sym, ap, ◌∙◌, arith, append_assoc, append-nil}
 use Rattle.std.specs.Prelude.{codes}
 use Rattle.std.specs.List.{filter_map, cons_option}
+use Rattle.stx_base.specs.declared.facts.StoreFacts.{StoreFacts}
 use Rattle.stx_base.specs.declared.call.Want.{Want}
 use Rattle.stx_base.specs.declared.history.StoreNote.{StoreNote}
 use Rattle.stx_base.specs.declared.history.StoreEntry.{StoreEntry}
@@ -56,9 +57,9 @@ journal_text-push number place (x ∷ es) e =
     ∙ sym (append_assoc (commit_text number place x.client words) _ _)
 
 -- in a legal history that is the number in the note of the commit
-pub printed_number : (values : List ℤ) (before : List StoreEntry) (t n : ℕ) → store_reply values before (Want.Commit t) ≡ Some (StoreNote.Commit t n) → n ≡ number_of 1 before
+pub printed_number : (facts : StoreFacts) (before : List StoreEntry) (t n : ℕ) → store_reply facts before (Want.Commit t) ≡ Some (StoreNote.Commit t n) → n ≡ number_of 1 before
 unfolding store_reply
-printed_number values before t n reply =
+printed_number facts before t n reply =
     let given : n ≡ length (journal before) + 1 = cc in
     let printed : number_of 1 before ≡ 1 + length (journal before) = number_of-journal before in
     omega arith

@@ -1,5 +1,7 @@
 pub mod HistoryLaws
 pub mod LegalLaws
+pub mod NoteLaws
+pub mod RowLaws
 pub mod PoolLaws
 pub mod StoreLaws
 pub mod JournalText

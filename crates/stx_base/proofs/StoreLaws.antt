@@ -1,15 +1,17 @@
 -- Which transactions a legal history of the store names, and how many it begins.
-use Rattle.std.proofs.Common.{◌≡◌, ◌≢◌, ℕ, ℤ, zero, suc, ◌+◌, ◌-◌, ◌*◌, ◌^◌, ◌<◌, ◌≤◌, Bool, true, false, not, ◌&&◌, ◌||◌, ◌==◌, IsTrue, cond, List, [], ◌∷◌, ◌++◌, length, Some, fold, refl, sym, ap, ◌∙◌, subst, inl, inr, arith, length-append, eqb-true, ltb-true}
+use Rattle.std.proofs.Common.{◌≡◌, ◌≢◌, ℕ, zero, suc, ◌+◌, ◌-◌, ◌*◌, ◌^◌, ◌<◌, ◌≤◌, Bool, true, false, not, ◌&&◌, ◌||◌, ◌==◌, IsTrue, cond, List, [], ◌∷◌, ◌++◌, length, Some, fold, refl, sym, ap, ◌∙◌, subst, inl, inr, arith, length-append, eqb-true, ltb-true}
 use Rattle.std.specs.List.{list_any}
 use Rattle.std.proofs.lemmas.Bool.{false≢true, cases_eq, cases_lt, and_parts}
+use Rattle.stx_base.specs.declared.facts.StoreFacts.{StoreFacts}
 use Rattle.stx_base.specs.declared.history.StoreNote.{StoreNote}
 use Rattle.stx_base.specs.declared.history.StoreEntry.{StoreEntry}
 use Rattle.stx_base.specs.Histories.{store_notes, store_notes_of, has_room}
 use Rattle.stx_base.specs.Pools.{contains}
-use Rattle.stx_base.specs.Stores.{begun, ends, is_live, pointed, savepoints, gone_back, released, store_reply, store_want, store_proper, can_go_back, is_pointed}
+use Rattle.stx_base.specs.Alone.{without_innermost}
+use Rattle.stx_base.specs.Stores.{begun, ends, is_live, pointed, savepoints, with_return, store_reply, store_want, store_proper, can_go_back, is_pointed}
 use Rattle.stx_base.specs.Legal.{StoreFits, StoreLegal}
 use Rattle.stx_base.proofs.LegalLaws.{StoreLegal-along}
-use Rattle.stx_base.proofs.HistoryLaws.{or-false, or_none, list_any-push, store_notes-push, begun-push, is_live-parts, is_live-push, savepoints-push, store_notes_of-push, store_notes_of-push_other, none_of, total, total-at, total-le}
+use Rattle.stx_base.proofs.HistoryLaws.{or-false, or_none, list_any-push, store_notes-push, begun-push, is_live-parts, is_live-push, savepoints-push, store_notes_of-push, store_notes_of-push_other, none_of, sum_below, sum_below-at, sum_below-le}
 
 -- ---- notes that name a transaction
 
@@ -36,8 +38,8 @@ is_live_none ns t h = is_live-parts ns t ∙ ap (λ b. b && not (list_any (ends 
 
 pub pointed_other : (t : ℕ) (ps : List Bool) (n : StoreNote) → names t n ≡ false → pointed t ps n ≡ ps
 pointed_other t ps (StoreNote.Point u) h = ap (λ b. cond b (false ∷ ps) ps) h
-pointed_other t ps (StoreNote.BackTo u) h = ap (λ b. cond b (gone_back ps) ps) h
-pointed_other t ps (StoreNote.Release u) h = ap (λ b. cond b (released ps) ps) h
+pointed_other t ps (StoreNote.BackTo u) h = ap (λ b. cond b (with_return ps) ps) h
+pointed_other t ps (StoreNote.Release u) h = ap (λ b. cond b (without_innermost ps) ps) h
 pointed_other t ps n h = refl
 
 savepoints_from_none : (ns : List StoreNote) (t : ℕ) (ps : List Bool) → list_any (names t) ns ≡ false → fold (pointed t) ps ns ≡ ps
@@ -102,31 +104,31 @@ lives own t (StoreNote.Rollback u) h b proper = subst (λ v. is_live own v ≡ t
 lives own t (StoreNote.Auto a r) h b proper = absurd (false≢true h)
 
 -- the number of a begin is one more than that of the begins before
-pub begin_number : (values : List ℤ) (H : List StoreEntry) (u : ℕ) → store_reply values H (store_want (StoreNote.Begin u)) ≡ Some (StoreNote.Begin u) → u ≡ length (begun (store_notes H)) + 1
+pub begin_number : (facts : StoreFacts) (H : List StoreEntry) (u : ℕ) → store_reply facts H (store_want (StoreNote.Begin u)) ≡ Some (StoreNote.Begin u) → u ≡ length (begun (store_notes H)) + 1
 unfolding store_reply
-begin_number values H u reply = cc
+begin_number facts H u reply = cc
 
 -- what an entry that fits names is new by a begin, or lives
-named_below : (values : List ℤ) (H : List StoreEntry) (c : ℕ) (note : StoreNote) (t : ℕ)
-    → IsTrue (store_proper (store_notes_of H c) (store_want note)) → store_reply values H (store_want note) ≡ Some note
+named_below : (facts : StoreFacts) (H : List StoreEntry) (c : ℕ) (note : StoreNote) (t : ℕ)
+    → IsTrue (store_proper (store_notes_of H c) (store_want note)) → store_reply facts H (store_want note) ≡ Some note
     → Unnamed H → names t note ≡ true → t ≤ length (begun (store_notes H)) + length (begun (note ∷ []))
-named_below values H c (StoreNote.Begin u) t proper reply unnamed is =
-    let number = begin_number values H u reply in
+named_below facts H c (StoreNote.Begin u) t proper reply unnamed is =
+    let number = begin_number facts H u reply in
     let same : u ≡ t = eqb-true u t is in
     omega arith
-named_below values H c (StoreNote.Access u a r) t proper reply unnamed is =
+named_below facts H c (StoreNote.Access u a r) t proper reply unnamed is =
     let below = live_below H c t unnamed (lives (store_notes_of H c) t (StoreNote.Access u a r) is refl proper) in omega arith
-named_below values H c (StoreNote.Point u) t proper reply unnamed is =
+named_below facts H c (StoreNote.Point u) t proper reply unnamed is =
     let below = live_below H c t unnamed (lives (store_notes_of H c) t (StoreNote.Point u) is refl proper) in omega arith
-named_below values H c (StoreNote.BackTo u) t proper reply unnamed is =
+named_below facts H c (StoreNote.BackTo u) t proper reply unnamed is =
     let below = live_below H c t unnamed (lives (store_notes_of H c) t (StoreNote.BackTo u) is refl proper) in omega arith
-named_below values H c (StoreNote.Release u) t proper reply unnamed is =
+named_below facts H c (StoreNote.Release u) t proper reply unnamed is =
     let below = live_below H c t unnamed (lives (store_notes_of H c) t (StoreNote.Release u) is refl proper) in omega arith
-named_below values H c (StoreNote.Commit u n) t proper reply unnamed is =
+named_below facts H c (StoreNote.Commit u n) t proper reply unnamed is =
     let below = live_below H c t unnamed (lives (store_notes_of H c) t (StoreNote.Commit u n) is refl proper) in omega arith
-named_below values H c (StoreNote.Rollback u) t proper reply unnamed is =
+named_below facts H c (StoreNote.Rollback u) t proper reply unnamed is =
     let below = live_below H c t unnamed (lives (store_notes_of H c) t (StoreNote.Rollback u) is refl proper) in omega arith
-named_below values H c (StoreNote.Auto a r) t proper reply unnamed is = absurd (false≢true is)
+named_below facts H c (StoreNote.Auto a r) t proper reply unnamed is = absurd (false≢true is)
 
 pub begun_length-push : (H : List StoreEntry) (e : StoreEntry) → length (begun (store_notes (H ++ e ∷ []))) ≡ length (begun (store_notes H)) + length (begun (e.note ∷ []))
 begun_length-push H e =
@@ -134,12 +136,12 @@ begun_length-push H e =
     ∙ ap length (begun-push (store_notes H) e.note)
     ∙ length-append (begun (store_notes H)) (begun (e.note ∷ []))
 
-unnamed-push : (n : ℕ) (values : List ℤ) (H : List StoreEntry) (e : StoreEntry) → Unnamed H → StoreFits n values H e → Unnamed (H ++ e ∷ [])
-unnamed-push n values H e unnamed fits t above =
+unnamed-push : (n : ℕ) (facts : StoreFacts) (H : List StoreEntry) (e : StoreEntry) → Unnamed H → StoreFits n facts H e → Unnamed (H ++ e ∷ [])
+unnamed-push n facts H e unnamed fits t above =
     let grown : length (begun (store_notes (H ++ e ∷ []))) ≡ length (begun (store_notes H)) + length (begun (e.note ∷ [])) = begun_length-push H e in
     let before : list_any (names t) (store_notes H) ≡ false = unnamed t (omega arith) in
     let step : (b : Bool) → names t e.note ≡ b → b ≡ false = λ b. elim b as (λ v. names t e.note ≡ v → v ≡ false) [
-      | true ↦ λ is. absurd (let low = named_below values H e.client e.note t fits.proper fits.reply unnamed is in omega arith)
+      | true ↦ λ is. absurd (let low = named_below facts H e.client e.note t fits.proper fits.reply unnamed is in omega arith)
       | false ↦ λ is. refl
     ] in
     ap (list_any (names t)) (store_notes-push H e)
@@ -147,14 +149,14 @@ unnamed-push n values H e unnamed fits t above =
     ∙ ap (λ b. b || names t e.note) before
     ∙ step (names t e.note) refl
 
-pub unnamed : (n : ℕ) (values : List ℤ) (H : List StoreEntry) → StoreLegal n values H → Unnamed H
-unnamed n values H legal = StoreLegal-along n values Unnamed (λ t above. refl) (unnamed-push n values) H legal
+pub unnamed : (n : ℕ) (facts : StoreFacts) (H : List StoreEntry) → StoreLegal n facts H → Unnamed H
+unnamed n facts H legal = StoreLegal-along n facts Unnamed (λ t above. refl) (unnamed-push n facts) H legal
 
 -- ---- the number of begins
 
 -- the clients' begins together are those of the history, and each client made few
 record Counted (n : ℕ) (H : List StoreEntry) : Type 0 where
-  all : length (begun (store_notes H)) ≡ total n (λ c. length (begun (store_notes_of H c)))
+  all : length (begun (store_notes H)) ≡ sum_below n (λ c. length (begun (store_notes_of H c)))
   each : (c : ℕ) → length (begun (store_notes_of H c)) ≤ 2 ^ 26 - 1
 
 few_own : (own : List StoreNote) (note : StoreNote) → IsTrue (store_proper own (store_want note)) → length (begun own) ≤ 2 ^ 26 - 1 → length (begun own) + length (begun (note ∷ [])) ≤ 2 ^ 26 - 1
@@ -175,14 +177,14 @@ own_length-push H e =
     ∙ ap length (begun-push (store_notes_of H e.client) e.note)
     ∙ length-append (begun (store_notes_of H e.client)) (begun (e.note ∷ []))
 
-counted-push : (n : ℕ) (values : List ℤ) (H : List StoreEntry) (e : StoreEntry) → Counted n H → StoreFits n values H e → Counted n (H ++ e ∷ [])
-counted-push n values H e counted fits =
+counted-push : (n : ℕ) (facts : StoreFacts) (H : List StoreEntry) (e : StoreEntry) → Counted n H → StoreFits n facts H e → Counted n (H ++ e ∷ [])
+counted-push n facts H e counted fits =
     let here = own_length-push H e in
     let others : (c : ℕ) → c ≢ e.client → length (begun (store_notes_of (H ++ e ∷ []) c)) ≡ length (begun (store_notes_of H c)) =
     λ c differs. ap (λ ns. length (begun ns)) (store_notes_of-push_other H e c (λ same. differs (sym same))) in
     record {
       all =
-          let sums = total-at n (λ c. length (begun (store_notes_of H c))) (λ c. length (begun (store_notes_of (H ++ e ∷ []) c))) e.client fits.client others in
+          let sums = sum_below-at n (λ c. length (begun (store_notes_of H c))) (λ c. length (begun (store_notes_of (H ++ e ∷ []) c))) e.client fits.client others in
           omega (arith, begun_length-push H e, counted.all);
       each = λ c. elim (cases_eq c e.client) [
         | inl same ↦ subst (λ d. length (begun (store_notes_of (H ++ e ∷ []) d)) ≤ 2 ^ 26 - 1) (sym same)
@@ -191,13 +193,13 @@ counted-push n values H e counted fits =
       ];
     }
 
-total-none : (n : ℕ) → total n (λ c. length (begun (store_notes_of [] c))) ≡ 0
-total-none zero = refl
-total-none (suc n) = let rest : total n (λ c. length (begun (store_notes_of [] c))) ≡ 0 = total-none n in omega arith
+sum_below-none : (n : ℕ) → sum_below n (λ c. length (begun (store_notes_of [] c))) ≡ 0
+sum_below-none zero = refl
+sum_below-none (suc n) = let rest : sum_below n (λ c. length (begun (store_notes_of [] c))) ≡ 0 = sum_below-none n in omega arith
 
 -- a legal history begins few transactions
-pub few_begun : (n : ℕ) (values : List ℤ) (H : List StoreEntry) → StoreLegal n values H → length (begun (store_notes H)) ≤ n * (2 ^ 26 - 1)
-few_begun n values H legal =
-    let counted = StoreLegal-along n values (Counted n) (record { all = sym (total-none n); each = λ c. omega arith }) (counted-push n values) H legal in
-    let sum = total-le n (2 ^ 26 - 1) (λ c. length (begun (store_notes_of H c))) (λ c h. counted.each c) in
+pub few_begun : (n : ℕ) (facts : StoreFacts) (H : List StoreEntry) → StoreLegal n facts H → length (begun (store_notes H)) ≤ n * (2 ^ 26 - 1)
+few_begun n facts H legal =
+    let counted = StoreLegal-along n facts (Counted n) (record { all = sym (sum_below-none n); each = λ c. omega arith }) (counted-push n facts) H legal in
+    let sum = sum_below-le n (2 ^ 26 - 1) (λ c. length (begun (store_notes_of H c))) (λ c h. counted.each c) in
     omega (arith, counted.all)

@@ -6,7 +6,7 @@ use Rattle.std.proofs.lemmas.Bool.{cases_lt, or_cases, or_left, or_right, false_
 use Rattle.std.proofs.lemmas.Map.Keys.{IsDistinct-cons}
 use Rattle.std.proofs.lemmas.Map.Steps.{length-le_from_distinct_below}
 use Rattle.stx_scenario.specs.declared.numbers.MethodNo.{MethodNo}
-use Rattle.stx_base.specs.Weight.{has_method, Next, LeadsTo, Way, IsOnCycle, above, longest, IsLongestWay}
+use Rattle.stx_base.specs.Weight.{has_method, Next, LeadsTo, Way, HasNoCycle, above, longest, IsLongestWay}
 
 abbrev pub numbered : ℕ → MethodNo
 numbered n = record { 0 = n }
@@ -107,7 +107,7 @@ leads_more next a m n way leads = (suc way.0, way_more next (suc way.0) a m n wa
 -- methods below a number lead only to methods below it, and none of them leads to itself
 pub record IsAcyclic (next : Next) (count : ℕ) : Type 0 where
   pub range : (m n : MethodNo) → m.0 < count → LeadsTo next m n → n.0 < count
-  pub acyclic : (m : MethodNo) → m.0 < count → ¬ (IsOnCycle next m)
+  pub acyclic : HasNoCycle next count
 
 -- different methods that all lead to m
 record Visited (next : Next) (count : ℕ) (visited : List ℕ) (m : MethodNo) : Type 0 where

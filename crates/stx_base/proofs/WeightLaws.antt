@@ -13,7 +13,7 @@ use Rattle.stx_scenario.specs.declared.scenario.Listener.{Listener}
 use Rattle.stx_scenario.specs.declared.scenario.SyncDecl.{SyncDecl}
 use Rattle.stx_scenario.specs.declared.scenario.Stmt.{Stmt}
 use Rattle.stx_base.specs.declared.cost.Cost.{Cost}
-use Rattle.stx_base.specs.Weight.{body_in, body_of, callbacks_in, callbacks_of, listeners_of, called, calls, led, leads, has_method, IsOnCycle, above, longest, rank, plus, total, one, callback_cost, callbacks_cost, listener_cost, statement_cost, body_cost, cost_within, cost, CallbackInRange, CallbacksInRange, StatementInRange, SyncInRange, InRange}
+use Rattle.stx_base.specs.Weight.{body_in, body_of, callbacks_in, callbacks_of, listeners_of, called, calls, led, leads, has_method, HasNoCycle, above, longest, rank, plus, total, one, callback_cost, callbacks_cost, listener_cost, statement_cost, body_cost, cost_within, cost, CallbackInRange, CallbacksInRange, StatementInRange, SyncInRange, InRange}
 use Rattle.stx_base.proofs.WayLaws.{same_method, has_itself, above_more, longest_settled, longest_all, longest_way, shallow, IsAcyclic}
 use Rattle.stx_base.specs.Laws.{RanksAreLongestWays}
 
@@ -98,7 +98,7 @@ unfolding leads
 leads_below S range m = below_body S range (body_of S m) (body_range S range _ m.0 refl)
 
 pub acyclic_from :
-    (S : Scenario) → InRange S → ((m : MethodNo) → m.0 < length S.methods → ¬ (IsOnCycle (leads S) m))
+    (S : Scenario) → InRange S → HasNoCycle (leads S) (length S.methods)
     → IsAcyclic (leads S) (length S.methods)
 acyclic_from S range none = record { range = λ m n below h. leads_below S range m n h; acyclic = none }
 

@@ -4,7 +4,7 @@ use Rattle.std.proofs.Common.{refl}
 use Rattle.stx_scenario.specs.declared.scenario.ClassDecl.{ClassDecl}
 use Rattle.stx_scenario.specs.declared.classes.TheConstants.{THROWABLE, EXCEPTION, ERROR, RUNTIME_EXCEPTION, CANNOT_ACQUIRE_LOCK_EXCEPTION}
 use Rattle.stx_scenario.specs.BuiltIn.{built_in, class_below}
-use Rattle.stx_base.specs.Classes.{parent_of, above, steps_within, steps_to, depth, is_below, rolls_back_by_default, first_unknown_parent, first_own_ancestor, IsTree}
+use Rattle.stx_base.specs.Classes.{parent_of, ancestor, steps_within, steps_to, depth, is_below, rolls_back_by_default, first_unknown_parent, first_own_ancestor, IsTree}
 
 -- DataAccessException, NestedRuntimeException, RuntimeException, Exception and Throwable are above it
 lock_below_throwable : depth built_in CANNOT_ACQUIRE_LOCK_EXCEPTION.0 THROWABLE.0 ≡ Some 5
@@ -51,7 +51,7 @@ cycle = built_in ++ class_below 19 (codes "app.In") ∷ class_below 19 (codes "a
 the_first_on_the_cycle : first_own_ancestor cycle ≡ Some 18
 the_first_on_the_cycle = refl
 
-around : above cycle 2 18 ≡ Some 18
+around : ancestor cycle 2 18 ≡ Some 18
 around = refl
 
 nowhere_wanted : steps_to cycle (λ class. false) 17 ≡ None

@@ -46,21 +46,22 @@ pub record Alone : Type 0 where
 abbrev pub at_start : RowMap → Alone
 at_start rows = record { rows = rows; copies = [] }
 
-abbrev pub last_copy : RowMap → List RowMap → RowMap
-last_copy rows [] = rows
-last_copy rows (copy ∷ copies) = copy
+-- the innermost of what is kept at open savepoints, or this where none is open
+abbrev pub innermost : {A : Type 0} → A → List A → A
+innermost none [] = none
+innermost none (kept ∷ outer) = kept
 
-abbrev pub without_last : List RowMap → List RowMap
-without_last [] = []
-without_last (copy ∷ copies) = copies
+abbrev pub without_innermost : {A : Type 0} → List A → List A
+without_innermost [] = []
+without_innermost (kept ∷ outer) = outer
 
 -- one note of the transaction's work (JDBC: Connection.setSavepoint, rollback to a savepoint, releaseSavepoint)
 abbrev pub stepped : Alone → StoreNote → Alone
 stepped s (StoreNote.Access t a r) = record { rows = applied s.rows a; copies = s.copies }
 stepped s (StoreNote.Auto a r) = record { rows = applied s.rows a; copies = s.copies }
 stepped s (StoreNote.Point t) = record { rows = s.rows; copies = s.rows ∷ s.copies }
-stepped s (StoreNote.BackTo t) = record { rows = last_copy s.rows s.copies; copies = s.copies }
-stepped s (StoreNote.Release t) = record { rows = s.rows; copies = without_last s.copies }
+stepped s (StoreNote.BackTo t) = record { rows = innermost s.rows s.copies; copies = s.copies }
+stepped s (StoreNote.Release t) = record { rows = s.rows; copies = without_innermost s.copies }
 stepped s (StoreNote.Begin t) = s
 stepped s (StoreNote.Commit t n) = s
 stepped s (StoreNote.Rollback t) = s

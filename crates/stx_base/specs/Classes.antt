@@ -85,8 +85,8 @@ abbrev pub parent_of : List ClassDecl → ℕ → Option ℕ
 parent_of classes a = parent_in (parents_of classes) a
 
 -- the class n steps above
-abbrev pub above : List ClassDecl → ℕ → ℕ → Option ℕ
-above classes n a = above_in n (parents_of classes) a
+abbrev pub ancestor : List ClassDecl → ℕ → ℕ → Option ℕ
+ancestor classes n a = above_in n (parents_of classes) a
 
 -- the steps from a class up to the first that is wanted, itself included, on a way of at most so many classes
 abbrev pub steps_within : ℕ → List ClassDecl → (ℕ → Bool) → ℕ → Option ℕ

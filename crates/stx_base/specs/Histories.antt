@@ -1,11 +1,12 @@
 -- A history is the list of entries that the pool or the store keeps, in the order in which it made its turns.
 -- A note is an entry without its client. Places in a history are counted from 1.
-use Rattle.std.specs.Prelude.{ℕ, zero, suc, ◌+◌, ◌^◌, Bool, List, map, length, nat_lt, ◌==◌}
+use Rattle.std.specs.Prelude.{ℕ, zero, suc, ◌+◌, Bool, List, map, length, nat_lt, ◌==◌}
 use Rattle.std.specs.List.{filter}
 use Rattle.stx_base.specs.declared.history.PoolNote.{PoolNote}
 use Rattle.stx_base.specs.declared.history.PoolEntry.{PoolEntry}
 use Rattle.stx_base.specs.declared.history.StoreNote.{StoreNote}
 use Rattle.stx_base.specs.declared.history.StoreEntry.{StoreEntry}
+use Rattle.stx_base.specs.Limits.{most_notes}
 
 -- the notes of all clients, in order
 abbrev pub pool_notes : List PoolEntry → List PoolNote
@@ -23,9 +24,9 @@ store_notes_of history client = store_notes (filter (λ e. e.client == client) h
 
 -- a client keeps fewer notes than this in each history
 abbrev pub has_room : {N : Type 0} → List N → Bool
-has_room notes = nat_lt (length notes) (2 ^ 32)
+has_room notes = nat_lt (length notes) most_notes
 
 -- the sum over the numbers below a bound, such as the clients
-abbrev pub total : ℕ → (ℕ → ℕ) → ℕ
-total zero f = 0
-total (suc n) f = total n f + f n
+abbrev pub sum_below : ℕ → (ℕ → ℕ) → ℕ
+sum_below zero f = 0
+sum_below (suc n) f = sum_below n f + f n

@@ -1,12 +1,8 @@
 -- The law on ranks that a public function carries.
-use Rattle.std.specs.Prelude.{◌≡◌, ℕ, ◌<◌, length, map}
+use Rattle.std.specs.Prelude.{◌≡◌, ◌<◌, length, map}
 use Rattle.stx_scenario.specs.declared.numbers.MethodNo.{MethodNo}
 use Rattle.stx_scenario.specs.declared.scenario.Scenario.{Scenario}
-use Rattle.stx_base.specs.Weight.{InRange, IsLongestWay, IsOnCycle, leads, rank, above, cost, body_cost, body_of}
-
--- no method leads to itself
-abbrev pub HasNoCycle : Scenario → Type 0
-HasNoCycle S = (m : MethodNo) → m.0 < length S.methods → ¬ (IsOnCycle (leads S) m)
+use Rattle.stx_base.specs.Weight.{InRange, IsLongestWay, HasNoCycle, leads, rank, above, cost, body_cost, body_of}
 
 -- where no method leads to itself, a rank is the steps of the longest way, and rank and cost are what the methods to
 -- which a method leads make them
@@ -16,4 +12,4 @@ pub record IsRanked (S : Scenario) (m : MethodNo) : Type 0 where
   pub from_costs : cost S m ≡ body_cost S (cost S) (body_of S m)
 
 abbrev pub RanksAreLongestWays : Type 0
-RanksAreLongestWays = (S : Scenario) → InRange S → HasNoCycle S → (m : MethodNo) → m.0 < length S.methods → IsRanked S m
+RanksAreLongestWays = (S : Scenario) → InRange S → HasNoCycle (leads S) (length S.methods) → (m : MethodNo) → m.0 < length S.methods → IsRanked S m

@@ -1,5 +1,6 @@
 -- Legal histories: each call is proper after its client's own earlier ones, and each answer is the reply to it.
-use Rattle.std.specs.Prelude.{◌≡◌, ℕ, ℤ, ◌<◌, List, [], ◌∷◌, ◌++◌, Some, IsTrue, ⊤}
+use Rattle.std.specs.Prelude.{◌≡◌, ℕ, ◌<◌, List, [], ◌∷◌, ◌++◌, Some, IsTrue, ⊤}
+use Rattle.stx_base.specs.declared.facts.StoreFacts.{StoreFacts}
 use Rattle.stx_base.specs.declared.history.PoolEntry.{PoolEntry}
 use Rattle.stx_base.specs.declared.history.StoreEntry.{StoreEntry}
 use Rattle.stx_base.specs.Histories.{pool_notes_of, store_notes_of}
@@ -21,15 +22,15 @@ abbrev pub PoolLegal : ℕ → ℕ → List PoolEntry → Type 0
 PoolLegal clients size history = PoolLegalFrom clients size [] history
 
 -- an entry of the store fits after those before it
-pub record StoreFits (clients : ℕ) (values : List ℤ) (before : List StoreEntry) (entry : StoreEntry) : Type 0 where
+pub record StoreFits (clients : ℕ) (facts : StoreFacts) (before : List StoreEntry) (entry : StoreEntry) : Type 0 where
   pub client : entry.client < clients
   pub proper : IsTrue (store_proper (store_notes_of before entry.client) (store_want entry.note))
-  pub reply : store_reply values before (store_want entry.note) ≡ Some entry.note
+  pub reply : store_reply facts before (store_want entry.note) ≡ Some entry.note
 
-abbrev pub StoreLegalFrom : ℕ → List ℤ → List StoreEntry → List StoreEntry → Type 0
-StoreLegalFrom clients values before [] = ⊤
-StoreLegalFrom clients values before (e ∷ es) = StoreFits clients values before e × StoreLegalFrom clients values (before ++ e ∷ []) es
+abbrev pub StoreLegalFrom : ℕ → StoreFacts → List StoreEntry → List StoreEntry → Type 0
+StoreLegalFrom clients facts before [] = ⊤
+StoreLegalFrom clients facts before (e ∷ es) = StoreFits clients facts before e × StoreLegalFrom clients facts (before ++ e ∷ []) es
 
--- a history of a store with these first values, of clients below a count
-abbrev pub StoreLegal : ℕ → List ℤ → List StoreEntry → Type 0
-StoreLegal clients values history = StoreLegalFrom clients values [] history
+-- a history of a store that is made with these, of clients below a count
+abbrev pub StoreLegal : ℕ → StoreFacts → List StoreEntry → Type 0
+StoreLegal clients facts history = StoreLegalFrom clients facts [] history

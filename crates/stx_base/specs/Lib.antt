@@ -1,7 +1,9 @@
+pub mod Limits
 pub mod Histories
 pub mod Pools
 pub mod Alone
 pub mod Stores
+pub mod Notes
 pub mod Legal
 pub mod Serial
 pub mod Attributes

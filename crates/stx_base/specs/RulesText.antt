@@ -1,5 +1,5 @@
 -- The text of the rules: what is decided where each class is thrown out of each method that has an attribute.
-use Rattle.std.specs.Prelude.{ℕ, List, [], ◌∷◌, ◌++◌, codes, length, map, Option, Some, None}
+use Rattle.std.specs.Prelude.{ℕ, List, [], ◌++◌, codes, length, map, Option, Some, None}
 use Rattle.std.specs.List.{concat, range_with_len}
 use Rattle.stx_scenario.specs.declared.numbers.ClassNo.{ClassNo}
 use Rattle.stx_scenario.specs.declared.numbers.MethodNo.{MethodNo}

@@ -1,14 +1,21 @@
 -- The store: which transactions live, which rows they hold, the journal, the rows, and what the store replies.
-use Rattle.std.specs.Prelude.{ℕ, ℤ, ◌+◌, ◌-◌, ◌^◌, Bool, true, false, not, ◌&&◌, ◌==◌, nat_lt, min, if◌then◌else◌, List, [], ◌∷◌, length, Option, Some, None}
+use Rattle.std.specs.Prelude.{ℕ, ℤ, ◌+◌, Bool, true, false, not, ◌&&◌, ◌==◌, nat_lt, min, if◌then◌else◌, List, [], ◌∷◌, length, Option, Some, None}
 use Rattle.std.specs.List.{filter, filter_map, list_any, fold}
+use Rattle.stx_scenario.specs.declared.scenario.Scenario.{Scenario}
 use Rattle.stx_base.specs.declared.call.Want.{Want}
+use Rattle.stx_base.specs.declared.facts.StoreFacts.{StoreFacts}
 use Rattle.stx_base.specs.declared.history.Access.{Access}
 use Rattle.stx_base.specs.declared.history.Answer.{Answer}
 use Rattle.stx_base.specs.declared.history.StoreNote.{StoreNote}
 use Rattle.stx_base.specs.declared.history.StoreEntry.{StoreEntry}
-use Rattle.stx_base.specs.Alone.{RowMap, first_rows, row_of, finds, after}
+use Rattle.stx_base.specs.Limits.{most_begins}
+use Rattle.stx_base.specs.Alone.{RowMap, first_rows, row_of, finds, after, without_innermost}
 use Rattle.stx_base.specs.Histories.{store_notes, has_room}
 use Rattle.stx_base.specs.Pools.{contains}
+
+-- what the store of a scenario is made with
+abbrev pub store_facts : Scenario → StoreFacts
+store_facts S = record { values = S.values }
 
 -- ---- transactions
 
@@ -51,14 +58,13 @@ abbrev pub is_caller : Option ℕ → ℕ → Bool
 is_caller (Some t) u = u == t
 is_caller None u = false
 
--- the holders that keep a caller from the row
-abbrev pub conflicts : List StoreNote → ℕ → Option ℕ → List ℕ
-conflicts notes k caller = filter (λ t. not (is_caller caller t)) (holders notes k)
+-- the holders that keep a caller's access from its row
+abbrev pub conflicts : StoreFacts → List StoreNote → Option ℕ → Access → List ℕ
+conflicts facts notes caller a = filter (λ t. not (is_caller caller t)) (holders notes (row_of a))
 
--- the least of some numbers
-abbrev pub least : List ℕ → Option ℕ
-least [] = None
-least (n ∷ ns) = Some (fold min n ns)
+abbrev pub smallest : List ℕ → Option ℕ
+smallest [] = None
+smallest (n ∷ ns) = Some (fold min n ns)
 
 -- ---- the work of a transaction, and its savepoints
 
@@ -73,19 +79,15 @@ works t _ = false
 abbrev pub work : List StoreNote → ℕ → List StoreNote
 work notes t = filter (works t) notes
 
--- the innermost savepoint has been gone back to
-abbrev pub gone_back : List Bool → List Bool
-gone_back [] = []
-gone_back (_ ∷ outer) = true ∷ outer
-
-abbrev pub released : List Bool → List Bool
-released [] = []
-released (_ ∷ outer) = outer
+-- the transaction has gone back to the innermost savepoint
+abbrev pub with_return : List Bool → List Bool
+with_return [] = []
+with_return (_ ∷ outer) = true ∷ outer
 
 abbrev pub pointed : ℕ → List Bool → StoreNote → List Bool
 pointed t opened (StoreNote.Point u) = if u == t then false ∷ opened else opened
-pointed t opened (StoreNote.BackTo u) = if u == t then gone_back opened else opened
-pointed t opened (StoreNote.Release u) = if u == t then released opened else opened
+pointed t opened (StoreNote.BackTo u) = if u == t then with_return opened else opened
+pointed t opened (StoreNote.Release u) = if u == t then without_innermost opened else opened
 pointed t opened _ = opened
 
 -- the open savepoints, the innermost first: whether the transaction has gone back to each
@@ -129,27 +131,27 @@ busy_or (Some t) found = Answer.Busy t
 busy_or None found = found
 
 -- an access of a transaction: it sees the committed rows and its own work
-abbrev pub access_answer : List ℤ → List StoreEntry → ℕ → Access → Answer
-access_answer values before t a =
-    busy_or (least (conflicts (store_notes before) (row_of a) (Some t)))
-    (finds (after (committed_rows values before) (work (store_notes before) t)) a)
+abbrev pub access_answer : StoreFacts → List StoreEntry → ℕ → Access → Answer
+access_answer facts before t a =
+    busy_or (smallest (conflicts facts (store_notes before) (Some t) a))
+    (finds (after (committed_rows facts.values before) (work (store_notes before) t)) a)
 
 -- an own statement sees the committed rows
-abbrev pub auto_answer : List ℤ → List StoreEntry → Access → Answer
-auto_answer values before a =
-    busy_or (least (conflicts (store_notes before) (row_of a) None)) (finds (committed_rows values before) a)
+abbrev pub auto_answer : StoreFacts → List StoreEntry → Access → Answer
+auto_answer facts before a =
+    busy_or (smallest (conflicts facts (store_notes before) None a)) (finds (committed_rows facts.values before) a)
 
--- the reply of a store with these first values, after these entries
-unfoldable pub store_reply : List ℤ → List StoreEntry → Want → Option StoreNote
-store_reply values before Want.Begin = Some (StoreNote.Begin (length (begun (store_notes before)) + 1))
-store_reply values before (Want.Access t a) = Some (StoreNote.Access t a (access_answer values before t a))
-store_reply values before (Want.Point t) = Some (StoreNote.Point t)
-store_reply values before (Want.BackTo t) = Some (StoreNote.BackTo t)
-store_reply values before (Want.Release t) = Some (StoreNote.Release t)
-store_reply values before (Want.Commit t) = Some (StoreNote.Commit t (length (journal before) + 1))
-store_reply values before (Want.Rollback t) = Some (StoreNote.Rollback t)
-store_reply values before (Want.Auto a) = Some (StoreNote.Auto a (auto_answer values before a))
-store_reply values before _ = None
+-- the reply of a store that is made with these, after these entries
+unfoldable pub store_reply : StoreFacts → List StoreEntry → Want → Option StoreNote
+store_reply facts before Want.Begin = Some (StoreNote.Begin (length (begun (store_notes before)) + 1))
+store_reply facts before (Want.Access t a) = Some (StoreNote.Access t a (access_answer facts before t a))
+store_reply facts before (Want.Point t) = Some (StoreNote.Point t)
+store_reply facts before (Want.BackTo t) = Some (StoreNote.BackTo t)
+store_reply facts before (Want.Release t) = Some (StoreNote.Release t)
+store_reply facts before (Want.Commit t) = Some (StoreNote.Commit t (length (journal before) + 1))
+store_reply facts before (Want.Rollback t) = Some (StoreNote.Rollback t)
+store_reply facts before (Want.Auto a) = Some (StoreNote.Auto a (auto_answer facts before a))
+store_reply facts before _ = None
 
 -- the call that a note answers
 abbrev pub store_want : StoreNote → Want
@@ -175,7 +177,7 @@ is_pointed (_ ∷ outer) = true
 
 -- what a call names is the client's own and live, and its savepoint is there; `own` are the client's own notes
 abbrev pub store_allows : List StoreNote → Want → Bool
-store_allows own Want.Begin = nat_lt (length (begun own)) (2 ^ 26 - 1)
+store_allows own Want.Begin = nat_lt (length (begun own)) most_begins
 store_allows own (Want.Access t a) = is_live own t
 store_allows own (Want.Point t) = is_live own t
 store_allows own (Want.BackTo t) = is_live own t && can_go_back (savepoints own t)

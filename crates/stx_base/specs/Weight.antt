@@ -1,6 +1,6 @@
 -- How methods lead to one another, and what they weigh: rank, size, registrations, weight.
 -- A method's number out of range has no statements, and a synchronisation's no bodies.
-use Rattle.std.specs.Prelude.{◌≡◌, ◌≤◌, ℕ, zero, suc, ◌+◌, ◌*◌, ◌<◌, ◌^◌, Bool, true, ◌==◌, List, [], ◌∷◌, ◌++◌, length, map, max, sum, Option, Some, None, slice_get}
+use Rattle.std.specs.Prelude.{◌≡◌, ◌≤◌, ℕ, zero, suc, ◌+◌, ◌*◌, ◌<◌, Bool, true, ◌==◌, List, [], ◌∷◌, ◌++◌, length, map, max, sum, Option, Some, None, slice_get}
 use Rattle.std.specs.List.{All, filter, flat_map, list_any}
 use Rattle.stx_scenario.specs.declared.numbers.MethodNo.{MethodNo}
 use Rattle.stx_scenario.specs.declared.numbers.EventNo.{EventNo}
@@ -11,6 +11,7 @@ use Rattle.stx_scenario.specs.declared.scenario.Listener.{Listener}
 use Rattle.stx_scenario.specs.declared.scenario.SyncDecl.{SyncDecl}
 use Rattle.stx_scenario.specs.declared.scenario.Stmt.{Stmt}
 use Rattle.stx_base.specs.declared.cost.Cost.{Cost}
+use Rattle.stx_base.specs.Limits.{numbers}
 
 -- ---- the parts of a scenario, by number
 
@@ -80,6 +81,10 @@ Way next (suc steps) m n = (through : MethodNo) × LeadsTo next m through × Way
 abbrev pub IsOnCycle : Next → MethodNo → Type 0
 IsOnCycle next m = (steps : ℕ) × Way next (suc steps) m m
 
+-- no method whose number is below the bound leads to itself
+abbrev pub HasNoCycle : Next → ℕ → Type 0
+HasNoCycle next bound = (m : MethodNo) → m.0 < bound → ¬ (IsOnCycle next m)
+
 -- a way of so many steps begins at a method, and none from there has more
 pub record IsLongestWay (next : Next) (m : MethodNo) (steps : ℕ) : Type 0 where
   pub is_way : (n : MethodNo) × Way next steps m n
@@ -104,8 +109,8 @@ rank S m = longest (leads S) (length S.methods) m
 
 -- ---- size and registrations
 
-abbrev pub nothing : Cost
-nothing = record { size = 0; registrations = 0 }
+abbrev pub no_cost : Cost
+no_cost = record { size = 0; registrations = 0 }
 
 -- what a statement costs by itself: one, and no registration
 abbrev pub one : Cost
@@ -119,7 +124,7 @@ abbrev pub plus : Cost → Cost → Cost
 plus a b = record { size = a.size + b.size; registrations = a.registrations + b.registrations }
 
 abbrev pub total : List Cost → Cost
-total [] = nothing
+total [] = no_cost
 total (c ∷ cs) = plus c (total cs)
 
 -- a statement of a callback, given what the methods cost
@@ -148,7 +153,7 @@ body_cost S of body = plus one (total (map (statement_cost S of) body))
 
 -- what a method costs, with calls up to this depth
 unfoldable pub cost_within : Scenario → ℕ → MethodNo → Cost
-cost_within S zero m = nothing
+cost_within S zero m = no_cost
 cost_within S (suc depth) m = body_cost S (cost_within S depth) (body_of S m)
 
 -- what a method costs; calls are never deeper than there are methods
@@ -206,10 +211,10 @@ pub record SyncInRange (methods : ℕ) (sync : SyncDecl) : Type 0 where
 abbrev pub MethodsInRange : ℕ → List MethodNo → Type 0
 MethodsInRange methods named = All (λ m. m.0 < methods) named
 
--- there are fewer than 2 ^ 32 methods, and all methods, events and syncs that bodies and clients name are there; rows
+-- the methods have numbers, and all methods, events and syncs that bodies and clients name are there; rows
 -- and classes don't matter here
 pub record InRange (S : Scenario) : Type 0 where
-  pub few : length S.methods < 2 ^ 32
+  pub few : length S.methods < numbers
   pub methods : All (λ method. BodyInRange (length S.methods) (length S.events) (length S.syncs) method.body) S.methods
   pub syncs : All (SyncInRange (length S.methods)) S.syncs
   pub listeners : All (λ listener. CallbacksInRange (length S.methods) listener.body) S.listeners

@@ -72,3 +72,10 @@ pub struct StoreEntry {
     pub client: u32,
     pub note: StoreNote,
 }
+
+/// A note of the pool or of the store.
+#[derive(Clone, Copy, Debug, PartialEq, Eq)]
+pub enum Note {
+    Pool(PoolNote),
+    Store(StoreNote),
+}

@@ -4,6 +4,7 @@
 
 mod call;
 mod cost;
+mod facts;
 mod history;
 mod laws;
 mod line;
@@ -13,7 +14,8 @@ mod token;
 
 pub use call::{Call, PoolAnswer, PoolCall, Reply, StoreAnswer, StoreCall, Want};
 pub use cost::Cost;
-pub use history::{Access, Answer, PoolEntry, PoolNote, StoreEntry, StoreNote};
+pub use facts::StoreFacts;
+pub use history::{Access, Answer, Note, PoolEntry, PoolNote, StoreEntry, StoreNote};
 pub use laws::ranks_are_longest_ways;
 pub use line::{Label, Line};
 pub use manager::{Ending, Kind, Opening, Round};

@@ -2,12 +2,12 @@
 use Rattle.std.specs.Prelude.{◌≡◌, ◌↔◌, ℕ, ◌<◌, ◌≤◌, IsTrue, List, length, Some}
 use Rattle.stx_scenario.specs.declared.scenario.ClassDecl.{ClassDecl}
 use Rattle.stx_scenario.specs.declared.classes.TheConstants.{THROWABLE}
-use Rattle.stx_base.specs.Classes.{above, depth, is_below, is_own_ancestor, parents_of, deepest, IsTree}
+use Rattle.stx_base.specs.Classes.{ancestor, depth, is_below, is_own_ancestor, parents_of, deepest, IsTree}
 
 -- n steps lead from a up to b, and no fewer do
 pub record IsFewest (classes : List ClassDecl) (a b n : ℕ) : Type 0 where
-  pub leads : above classes n a ≡ Some b
-  pub fewest : (m : ℕ) → above classes m a ≡ Some b → n ≤ m
+  pub leads : ancestor classes n a ≡ Some b
+  pub fewest : (m : ℕ) → ancestor classes m a ≡ Some b → n ≤ m
 
 -- the depth is the fewest steps that lead from a up to b
 abbrev pub DepthIsFewest : Type 0
@@ -15,13 +15,13 @@ DepthIsFewest = (classes : List ClassDecl) (a b n : ℕ) → b < length classes 
 
 -- a is b or below it exactly where some number of steps leads from a up to b
 abbrev pub BelowIsAWay : Type 0
-BelowIsAWay = (classes : List ClassDecl) (a b : ℕ) → b < length classes → IsTrue (is_below classes a b) ↔ ((n : ℕ) × (above classes n a ≡ Some b))
+BelowIsAWay = (classes : List ClassDecl) (a b : ℕ) → b < length classes → IsTrue (is_below classes a b) ↔ ((n : ℕ) × (ancestor classes n a ≡ Some b))
 
 -- a class is its own ancestor exactly where one or more steps lead from it up to itself
 abbrev pub OwnAncestorIsAWay : Type 0
 OwnAncestorIsAWay =
     (classes : List ClassDecl) (a : ℕ) → a < length classes
-    → IsTrue (is_own_ancestor (parents_of classes) a) ↔ ((n : ℕ) × (0 < n) × (above classes n a ≡ Some a))
+    → IsTrue (is_own_ancestor (parents_of classes) a) ↔ ((n : ℕ) × (0 < n) × (ancestor classes n a ≡ Some a))
 
 -- in a tree at most 64 steps lead from each class up to Throwable
 abbrev pub TreeReachesThrowable : Type 0

@@ -10,4 +10,4 @@ IsDue classes (ClassFault.UnknownParent class) = first_unknown_parent classes �
 IsDue classes (ClassFault.Cycle class) = (first_unknown_parent classes ≡ None) × (first_own_ancestor classes ≡ Some class.0)
 IsDue classes (ClassFault.TooDeep class) =
     (first_unknown_parent classes ≡ None) × (first_own_ancestor classes ≡ None) × (first_too_deep classes ≡ Some class.0)
-IsDue classes ClassFault.NoMemory = ⊤
+IsDue classes (ClassFault.NoMemory _) = ⊤

@@ -13,13 +13,13 @@ pub enum ClassFault {
     Cycle(ClassNo),
     /// It is more than 64 steps below `Throwable`.
     TooDeep(ClassNo),
-    NoMemory,
+    NoMemory(NoMemory),
 }
 
 impl From<NoMemory> for ClassFault {
-    ghost from_gives = { λ _ fault. fault ≡ ClassFault.NoMemory };
+    ghost from_gives = { λ refused fault. fault ≡ ClassFault.NoMemory refused };
 
-    fn from(_: NoMemory) -> Self {
-        ClassFault::NoMemory
+    fn from(refused: NoMemory) -> Self {
+        ClassFault::NoMemory(refused)
     }
 }

@@ -21,7 +21,8 @@ use Rattle.stx_client.specs.declared.stage.Stage.{Stage}
 use Rattle.stx_client.specs.declared.stage.At.{At}
 use Rattle.stx_client.specs.Machine.{state, attribute_of, context_of, want_of, does, ending, means, run}
 use Rattle.stx_client.specs.Holding.{has_failed}
-use Rattle.stx_client.specs.View.{Playing, Keeps, StartsWith, script_of, is_reply}
+use Rattle.stx_base.specs.Notes.{is_reply}
+use Rattle.stx_client.specs.View.{Playing, Keeps, StartsWith, script_of}
 
 -- ---- growth
 

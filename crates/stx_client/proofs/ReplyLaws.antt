@@ -6,8 +6,8 @@ use Rattle.stx_base.specs.declared.call.Reply.{Reply}
 use Rattle.stx_base.specs.declared.call.StoreAnswer.{StoreAnswer}
 use Rattle.stx_base.specs.declared.history.Access.{Access}
 use Rattle.stx_base.specs.declared.history.Answer.{Answer}
-use Rattle.stx_model.specs.Meanings.{same_access, suits}
-use Rattle.stx_client.specs.View.{is_reply_to}
+use Rattle.stx_base.specs.Notes.{same_access, suits}
+use Rattle.stx_base.specs.Notes.{is_reply_to}
 
 pub itself : (n : ℕ) → (n == n) ≡ true
 itself n = eq-eqb n n refl

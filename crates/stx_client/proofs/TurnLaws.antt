@@ -13,7 +13,9 @@ use Rattle.stx_base.specs.declared.history.StoreNote.{StoreNote}
 use Rattle.stx_base.specs.declared.line.Line.{Line}
 use Rattle.stx_base.specs.declared.manager.Ending.{Ending}
 use Rattle.stx_model.specs.Contexts.{Context, bare}
-use Rattle.stx_model.specs.Meanings.{State, Result, Breaks, Meaning, Note, FromPool, FromStore, unread, hear, heard, answered, is_answer, pool_answers, store_answers, store_line, on_access, ask}
+use Rattle.stx_base.specs.Notes.{is_answer, pool_answers, store_answers, store_line}
+use Rattle.stx_base.specs.declared.history.Note.{Note}
+use Rattle.stx_model.specs.Meanings.{State, Result, Breaks, Meaning, unread, hear, heard, answered, on_access, ask}
 use Rattle.stx_model.specs.Script.{unless_busy, access_row, leaves, gives_back, ending_call, completes, opened, begins, fresh}
 use Rattle.stx_client.specs.declared.stage.Scope.{Scope}
 use Rattle.stx_client.specs.declared.stage.Then.{Then}
@@ -51,15 +53,15 @@ module _ (S : Scenario) (m : MethodNo) (before : List Line) (context : Context) 
   answer_next : (t u : ℕ) (a b : Access) (r : Answer) (next : Answer → Meaning) → store_answers (Want.Access t a) (StoreNote.Access u b r) ≡ true
       → access_row t a next (state before context pool (StoreNote.Access u b r ∷ store)) ≡ unless_busy next r (state (before ++ Line.Row u b r ∷ []) context pool store)
   answer_next t u a b r next is =
-      asked (Want.Access t a) (on_access (unless_busy next)) (state before context pool (StoreNote.Access u b r ∷ store)) (FromStore (StoreNote.Access u b r)) refl is
+      asked (Want.Access t a) (on_access (unless_busy next)) (state before context pool (StoreNote.Access u b r ∷ store)) (Note.Store (StoreNote.Access u b r)) refl is
 
   ended_next : (c t : ℕ) (e : Ending) (x : Option ClassNo) (n : StoreNote) → store_answers (ending_call t e) n ≡ true
       → completes m c t e x (state before context pool (n ∷ store)) ≡ gives_back m c x (state (before ++ store_line n ∷ []) context pool store)
   unfolding completes
   ended_next c t e x n is =
-      asked (ending_call t e) (λ _. gives_back m c x) (state before context pool (n ∷ store)) (FromStore n) (first e) is
+      asked (ending_call t e) (λ _. gives_back m c x) (state before context pool (n ∷ store)) (Note.Store n) (first e) is
     where
-      first : (e : Ending) → unread (ending_call t e) (state before context pool (n ∷ store)) ≡ Some (FromStore n)
+      first : (e : Ending) → unread (ending_call t e) (state before context pool (n ∷ store)) ≡ Some (Note.Store n)
       first Ending.Commit = refl
       first Ending.Rollback = refl
       first Ending.Unexpected = refl
@@ -69,7 +71,7 @@ module _ (S : Scenario) (m : MethodNo) (before : List Line) (context : Context) 
   unfolding gives_back
   given_next c d x is =
       asked (Want.Give c) (λ _ given. leaves m x (record { lines = given.lines; context = bare; marked = given.marked; pool = given.pool; store = given.store }))
-      (state before context (PoolNote.Given d ∷ pool) store) (FromPool (PoolNote.Given d)) refl is
+      (state before context (PoolNote.Given d ∷ pool) store) (Note.Pool (PoolNote.Given d)) refl is
 
 -- ---- each stage with its note
 

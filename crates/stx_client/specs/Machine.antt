@@ -15,7 +15,7 @@ use Rattle.stx_base.specs.Attributes.{attribute}
 use Rattle.stx_model.specs.Contexts.{Context, bare}
 use Rattle.stx_model.specs.Meanings.{State, Result, Stops, Breaks, Meaning, and_then, finally}
 use Rattle.stx_base.specs.Weight.{body_of}
-use Rattle.stx_model.specs.Script.{is_value, body, unless_busy, access_row, nothing_more, needed, added, ends, ending_call, completes, gives_back, opened, begins, fresh, fresh_context, owns_fresh, tops, calls_of}
+use Rattle.stx_model.specs.Script.{is_value, body, unless_busy, access_row, nothing_more, needed, added, ends_scope, ending_call, completes, gives_back, opened, begins, fresh, fresh_context, owns_fresh, tops, calls_of}
 use Rattle.stx_model.specs.Flat.{default_attribute}
 use Rattle.stx_client.specs.declared.stage.Scope.{Scope}
 use Rattle.stx_client.specs.declared.stage.Then.{Then}
@@ -69,7 +69,7 @@ access_in _ = None
 
 -- the end of the scope, after a body that threw this or nothing
 abbrev pub ending : Scenario → Scope → Option ClassNo → Meaning
-ending S scope x st = ends S scope.method (attribute_of S scope.method) scope.connection scope.tx x st
+ending S scope x st = ends_scope S scope.method (attribute_of S scope.method) scope.connection scope.tx x st
 
 -- the statements from this place on, and then the end of the scope
 abbrev pub rest_of_body : Scenario → Scope → ℕ → Result → Result

@@ -11,7 +11,8 @@ use Rattle.stx_base.specs.declared.call.StoreAnswer.{StoreAnswer}
 use Rattle.stx_base.specs.declared.history.PoolNote.{PoolNote}
 use Rattle.stx_base.specs.declared.history.StoreNote.{StoreNote}
 use Rattle.stx_base.specs.declared.line.Line.{Line}
-use Rattle.stx_model.specs.Meanings.{Result, state_of, pool_answers, store_answers}
+use Rattle.stx_base.specs.Notes.{pool_answers, store_answers}
+use Rattle.stx_model.specs.Meanings.{Result, state_of}
 use Rattle.stx_model.specs.Script.{script}
 use Rattle.stx_model.specs.Flat.{IsFlat}
 use Rattle.stx_model.specs.Reads.{ReadsAll}

@@ -4,7 +4,8 @@ ghost use Rattle.stx_model.specs.Meanings.{state_of, stop_of};
 ghost use Rattle.stx_model.specs.Flat.{IsFlat};
 ghost use Rattle.stx_base.specs.declared.call.Want.{Want as WantData};
 ghost use Rattle.stx_base.specs.declared.call.Reply.{Reply as ReplyData};
-ghost use Rattle.stx_client.specs.View.{at_start, script_of, call_want, is_reply, calling, fed, HasReadAll, StartsWith, IsScript};
+ghost use Rattle.stx_base.specs.Notes.{call_want, is_reply};
+ghost use Rattle.stx_client.specs.View.{at_start, script_of, calling, fed, HasReadAll, StartsWith, IsScript};
 
 use crate::calls::call_at;
 use crate::notes::{pool_note, store_note};

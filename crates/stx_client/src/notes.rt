@@ -2,7 +2,8 @@
 ghost use Rattle.std.specs.Prelude.{◌≡◌, Some, IsTrue};
 ghost use Rattle.stx_client.specs.Machine.{want_of};
 ghost use Rattle.stx_client.specs.Holding.{with_taken, with_begun};
-ghost use Rattle.stx_client.specs.View.{pool_note as note_of_pool, store_note as note_of_store, answers_pool, answers_store};
+ghost use Rattle.stx_base.specs.Notes.{pool_note as note_of_pool, store_note as note_of_store};
+ghost use Rattle.stx_client.specs.View.{answers_pool, answers_store};
 
 use crate::stage::Stage;
 use crate::tokens::Tokens;

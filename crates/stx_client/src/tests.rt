@@ -3,10 +3,10 @@ ghost use Rattle.std.specs.Prelude.{◌≡◌, ◌≤◌, length, false, None, S
 ghost use Rattle.std.specs.List.{list_all};
 ghost use Rattle.stx_model.specs.Flat.{IsFlat, IsFlatAttribute, is_flat};
 ghost use Rattle.stx_client.specs.Fixture.{AreClasses, HasFlatTx};
-ghost use Rattle.stx_model.specs.Meanings.{suits};
+ghost use Rattle.stx_base.specs.Notes.{suits};
 ghost use Rattle.stx_base.specs.declared.call.Want.{Want as WantData};
 ghost use Rattle.stx_base.specs.declared.call.Reply.{Reply as ReplyData};
-ghost use Rattle.stx_client.specs.View.{call_want, pool_call_want, store_call_want, is_reply, is_reply_to};
+ghost use Rattle.stx_base.specs.Notes.{call_want, pool_call_want, store_call_want, is_reply, is_reply_to};
 
 use crate::{Client, Setup};
 use std::alloc::Global;

@@ -1,7 +1,7 @@
 // What a note of the pool or of the store does: its line, and then all up to the next shared call.
 ghost use Rattle.std.specs.Prelude.{◌≡◌, ◌≤◌, ◌<◌, length, IsTrue};
 ghost use Rattle.stx_model.specs.Flat.{IsFlat};
-ghost use Rattle.stx_model.specs.Meanings.{pool_answers, store_answers};
+ghost use Rattle.stx_base.specs.Notes.{pool_answers, store_answers};
 ghost use Rattle.stx_model.specs.Script.{owns_fresh as owns_in};
 ghost use Rattle.stx_client.specs.Holding.{Passes, with_taken, with_begun, nothing_new};
 ghost use Rattle.stx_client.specs.Machine.{IsSound, IsMethod, IsIn, HearsPool, HearsStore, Opens, want_of};

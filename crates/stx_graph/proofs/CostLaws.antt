@@ -5,7 +5,7 @@ use Rattle.stx_base.specs.declared.cost.Cost.{Cost}
 use Rattle.std.proofs.lemmas.List.{map-append}
 use Rattle.stx_scenario.specs.declared.numbers.MethodNo.{MethodNo}
 use Rattle.stx_scenario.specs.declared.scenario.Stmt.{Stmt}
-use Rattle.stx_base.specs.Weight.{nothing, plus, total, callback_cost, callbacks_cost}
+use Rattle.stx_base.specs.Weight.{no_cost, plus, total, callback_cost, callbacks_cost}
 use Rattle.stx_graph.specs.Costs.{cap, capped, added}
 
 pub cost_same : (a b : Cost) → a.size ≡ b.size → a.registrations ≡ b.registrations → a ≡ b
@@ -32,10 +32,10 @@ min_none a c e = omega (arith, e)
 pub capped_twice : (a : Cost) → capped a ≡ capped (capped a)
 capped_twice a = cost_same _ _ (min_twice a.size cap) (min_twice a.registrations cap)
 
-pub plus_nothing : (a : Cost) → plus a nothing ≡ a
+pub plus_nothing : (a : Cost) → plus a no_cost ≡ a
 plus_nothing a = cost_same _ _ (omega arith) (omega arith)
 
-pub nothing_plus : (a : Cost) → plus nothing a ≡ a
+pub nothing_plus : (a : Cost) → plus no_cost a ≡ a
 nothing_plus a = cost_same _ _ (omega arith) (omega arith)
 
 pub plus_plus : (a b c : Cost) → plus (plus a b) c ≡ plus a (plus b c)
@@ -48,7 +48,7 @@ pub total_append : (cs ds : List Cost) → total (cs ++ ds) ≡ plus (total cs) 
 total_append [] ds = sym (nothing_plus (total ds))
 total_append (c ∷ cs) ds = ap (plus c) (total_append cs ds) ∙ sym (plus_plus c (total cs) (total ds))
 
-none_added : (a : Cost) → a ≡ capped a → a ≡ capped (plus a nothing)
+none_added : (a : Cost) → a ≡ capped a → a ≡ capped (plus a no_cost)
 none_added a e = e ∙ sym (ap capped (plus_nothing a))
 
 one_added : (a g f t : Cost) → capped g ≡ capped f → capped (plus (added a g) t) ≡ capped (plus a (plus f t))

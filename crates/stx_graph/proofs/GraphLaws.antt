@@ -14,7 +14,8 @@ use Rattle.stx_base.proofs.WayLaws.{has_itself, above_more, above_most, above_sa
 use Rattle.stx_base.proofs.WeightLaws.{acyclic_from, cost_settled}
 use Rattle.stx_graph.specs.Rows.{next_in, Same, MethodRows}
 use Rattle.stx_graph.specs.Ranks.{rank_at, AreLongest, IsFirst}
-use Rattle.stx_graph.specs.Cycles.{AreReached, NoneBelow}
+use Rattle.stx_base.specs.Weight.{HasNoCycle}
+use Rattle.stx_graph.specs.Cycles.{AreReached}
 use Rattle.stx_graph.specs.Costs.{cap}
 use Rattle.stx_graph.specs.Graph.{LeadsToItself, IsTooDeep, NoCycle, NoneTooDeep, IsDue, IsDepthFault}
 use Rattle.stx_graph.specs.declared.graph.GraphFault.{GraphFault}
@@ -26,8 +27,8 @@ numbered n = record { 0 = n }
 -- ---- the search over all methods
 
 pub none_more :
-    (next : Next) (n : ℕ) (order : List MethodNo) → NoneBelow next n → AreReached next (record { 0 = n }) order
-    → has_method order (record { 0 = n }) ≡ false → NoneBelow next (n + 1)
+    (next : Next) (n : ℕ) (order : List MethodNo) → HasNoCycle next n → AreReached next (record { 0 = n }) order
+    → has_method order (record { 0 = n }) ≡ false → HasNoCycle next (n + 1)
 none_more next n order none reached missing m below cycle =
     ⊎_elim
     (λ less. none m less cycle)
@@ -223,7 +224,7 @@ first_cycle S rows m are first =
     }
 
 pub none_acyclic :
-    (S : Scenario) (rows : List (List MethodNo)) → InRange S → MethodRows S rows → NoneBelow (next_in rows) (length rows)
+    (S : Scenario) (rows : List (List MethodNo)) → InRange S → MethodRows S rows → HasNoCycle (next_in rows) (length rows)
     → IsAcyclic (leads S) (length S.methods)
 none_acyclic S rows range are none =
     acyclic_from S range (λ m below cycle.
@@ -275,7 +276,7 @@ due S rows ranks m (GraphFault.TooDeep n) range are found first fault =
     let here = first_deep S rows ranks m are found graph first in
     (no_cycle S graph, subst (λ n. IsFirst (IsTooDeep S) n) (sym fault.1) here)
 due S rows ranks m GraphFault.TooLarge range are found first fault = absurd fault
-due S rows ranks m GraphFault.NoMemory range are found first fault = tt
+due S rows ranks m (GraphFault.NoMemory _) range are found first fault = tt
 
 -- the weight, stopped at the cap
 pub light : (S : Scenario) (w : ℕ) → InRange S → Short S → w ≡ min (sum (map (client_weight (cost_within S 65)) S.clients)) cap → w ≤ 200000 → w ≡ weight S

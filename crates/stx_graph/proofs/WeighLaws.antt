@@ -3,7 +3,7 @@ use Rattle.std.proofs.Common.{◌≡◌, ℕ, suc, ◌+◌, ◌*◌, ◌<◌, �
 use Rattle.std.specs.List.{All, flat_map, range_with_len, slice_get, sum}
 use Rattle.std.proofs.lemmas.Bool.{or_left, or_right, cases_lt}
 use Rattle.std.proofs.lemmas.List.Sums.{sum_by-append}
-use Rattle.std.proofs.lemmas.List.{get_or-map, get_or-replicate, length-map, length-replicate, take_all, take_more, map-append}
+use Rattle.std.proofs.lemmas.List.{get_or-map, get_or-replicate, length-map, length-replicate, take_more, map-append}
 use Rattle.std.proofs.lemmas.List.FromFn.{get_or-map-range_with_len, length-map-range_with_len, map-range_with_len_more}
 use Rattle.std.proofs.lemmas.List.Elements.{All-head, All-tail}
 use Rattle.std.proofs.lemmas.Option.{slice_get-get_or}
@@ -14,7 +14,7 @@ use Rattle.stx_scenario.specs.declared.scenario.Listener.{Listener}
 use Rattle.stx_scenario.specs.declared.scenario.SyncDecl.{SyncDecl}
 use Rattle.stx_scenario.specs.declared.scenario.Stmt.{Stmt}
 use Rattle.stx_base.specs.declared.cost.Cost.{Cost}
-use Rattle.stx_base.specs.Weight.{nothing, one, one_registered, plus, total, body_in, body_of, callbacks, callbacks_in, callbacks_of, called, calls, led, leads, listeners_of, has_method, callback_cost, callbacks_cost, listener_cost, statement_cost, body_cost, cost_within, client_weight, weight_of, StatementInRange, BodyInRange, MethodsInRange, InRange}
+use Rattle.stx_base.specs.Weight.{no_cost, one, one_registered, plus, total, body_in, body_of, callbacks, callbacks_in, callbacks_of, called, calls, led, leads, listeners_of, has_method, callback_cost, callbacks_cost, listener_cost, statement_cost, body_cost, cost_within, client_weight, weight_of, StatementInRange, BodyInRange, MethodsInRange, InRange}
 use Rattle.stx_base.proofs.WayLaws.{has_itself}
 use Rattle.stx_base.proofs.WeightLaws.{has_append, leads_below}
 use Rattle.stx_graph.specs.Costs.{cap, capped, cost_at, statement_at, event_cost, AreCosts}
@@ -103,10 +103,10 @@ sync_costs_of S of = map (λ sync. capped (callbacks_cost of (callbacks sync))) 
 
 at_sync :
     (of : MethodNo → Cost) (syncs : List SyncDecl) (n : ℕ) → n < length syncs
-    → get_or (map (λ sync. capped (callbacks_cost of (callbacks sync))) syncs) n nothing ≡ capped (callbacks_cost of (callbacks_in (slice_get syncs n)))
+    → get_or (map (λ sync. capped (callbacks_cost of (callbacks sync))) syncs) n no_cost ≡ capped (callbacks_cost of (callbacks_in (slice_get syncs n)))
 at_sync of [] n h = absurd (omega arith)
 at_sync of (sync ∷ syncs) n h =
-    get_or-map (λ sync. capped (callbacks_cost of (callbacks sync))) (sync ∷ syncs) n sync nothing h
+    get_or-map (λ sync. capped (callbacks_cost of (callbacks sync))) (sync ∷ syncs) n sync no_cost h
     ∙ ap (λ o. capped (callbacks_cost of (callbacks_in o))) (sym (slice_get-get_or (sync ∷ syncs) n sync h))
 
 near_statement_at :
@@ -116,14 +116,14 @@ near_statement_at :
 near_statement_at S costs events syncs e y (Stmt.Call m x) h = refl
 near_statement_at S costs events syncs e y (Stmt.This m x) h = refl
 near_statement_at S costs events syncs e y (Stmt.Register s) h =
-    let here = ap (λ costs. get_or costs s.0 nothing) y ∙ at_sync (cost_at costs) S.syncs s.0 h in
-    near_plus one_registered one_registered (get_or syncs s.0 nothing) (callbacks_cost (cost_at costs) (callbacks_of S s)) refl
+    let here = ap (λ costs. get_or costs s.0 no_cost) y ∙ at_sync (cost_at costs) S.syncs s.0 h in
+    near_plus one_registered one_registered (get_or syncs s.0 no_cost) (callbacks_cost (cost_at costs) (callbacks_of S s)) refl
     (ap capped here ∙ sym (capped_twice (callbacks_cost (cost_at costs) (callbacks_of S s))))
 near_statement_at S costs events syncs e y (Stmt.Publish event) h =
     let here =
-    ap (λ costs. get_or costs event.0 nothing) e
-    ∙ get_or-map-range_with_len (λ n. capped (event_cost S (cost_at costs) (record { 0 = n }))) 0 (length S.events) event.0 event.0 nothing h (omega arith) in
-    near_plus one one (get_or events event.0 nothing) (event_cost S (cost_at costs) event) refl
+    ap (λ costs. get_or costs event.0 no_cost) e
+    ∙ get_or-map-range_with_len (λ n. capped (event_cost S (cost_at costs) (record { 0 = n }))) 0 (length S.events) event.0 event.0 no_cost h (omega arith) in
+    near_plus one one (get_or events event.0 no_cost) (event_cost S (cost_at costs) event) refl
     (ap capped here ∙ sym (capped_twice (event_cost S (cost_at costs) event)))
 near_statement_at S costs events syncs e y _ h = refl
 
@@ -159,21 +159,21 @@ map_turn f xs n x ys after y so_far below here is pushed =
 
 -- ---- rounds
 
-pub first_costs : (S : Scenario) (costs : List Cost) → costs ≡ replicate (length S.methods) nothing → AreCosts S 0 costs
+pub first_costs : (S : Scenario) (costs : List Cost) → costs ≡ replicate (length S.methods) no_cost → AreCosts S 0 costs
 unfolding cost_within
 first_costs S costs e = record {
-  count = ap length e ∙ length-replicate (length S.methods) nothing;
+  count = ap length e ∙ length-replicate (length S.methods) no_cost;
   costs = λ m h.
       ap (λ costs. cost_at costs m) e
-      ∙ get_or-replicate (length S.methods) m.0 nothing nothing (let count = ap length e ∙ length-replicate (length S.methods) nothing in omega (arith, count, h));
+      ∙ get_or-replicate (length S.methods) m.0 no_cost no_cost (let count = ap length e ∙ length-replicate (length S.methods) no_cost in omega (arith, count, h));
 }
 
 costs_at :
     (S : Scenario) (f : MethodNo → Cost) (methods : List Method) (n : ℕ) → n < length methods
-    → get_or (map (λ method. capped (body_cost S f method.body)) methods) n nothing ≡ capped (body_cost S f (body_in (slice_get methods n)))
+    → get_or (map (λ method. capped (body_cost S f method.body)) methods) n no_cost ≡ capped (body_cost S f (body_in (slice_get methods n)))
 costs_at S f [] n h = absurd (omega arith)
 costs_at S f (method ∷ methods) n h =
-    get_or-map (λ method. capped (body_cost S f method.body)) (method ∷ methods) n method nothing h
+    get_or-map (λ method. capped (body_cost S f method.body)) (method ∷ methods) n method no_cost h
     ∙ ap (λ o. capped (body_cost S f (body_in o))) (sym (slice_get-get_or (method ∷ methods) n method h))
 
 near_costs : (S : Scenario) (depth : ℕ) (costs : List Cost) → AreCosts S depth costs → (ms : List MethodNo) → ((m : MethodNo) → has_method ms m ≡ true → m.0 < length S.methods) → NearOn (cost_at costs) (cost_within S depth) ms

@@ -5,7 +5,7 @@ use Rattle.stx_scenario.specs.declared.numbers.EventNo.{EventNo}
 use Rattle.stx_scenario.specs.declared.scenario.Scenario.{Scenario}
 use Rattle.stx_scenario.specs.declared.scenario.Stmt.{Stmt}
 use Rattle.stx_base.specs.declared.cost.Cost.{Cost}
-use Rattle.stx_base.specs.Weight.{nothing, one, one_registered, plus, total, listeners_of, listener_cost, cost_within}
+use Rattle.stx_base.specs.Weight.{no_cost, one, one_registered, plus, total, listeners_of, listener_cost, cost_within}
 
 -- one more than the greatest weight that a scenario may have
 abbrev pub cap : ℕ
@@ -16,7 +16,7 @@ capped c = record { size = min c.size cap; registrations = min c.registrations c
 
 -- the cost that stands for a method in a list
 abbrev pub cost_at : List Cost → MethodNo → Cost
-cost_at costs m = slice_index_or costs m.0 nothing
+cost_at costs m = slice_index_or costs m.0 no_cost
 
 -- a cost and one more
 abbrev pub added : Cost → Cost → Cost
@@ -30,8 +30,8 @@ event_cost S of e = total (map (listener_cost of) (listeners_of S e))
 abbrev pub statement_at : List Cost → List Cost → List Cost → Stmt → Cost
 statement_at methods events syncs (Stmt.Call m x) = plus one (cost_at methods m)
 statement_at methods events syncs (Stmt.This m x) = plus one (cost_at methods m)
-statement_at methods events syncs (Stmt.Register s) = plus one_registered (slice_index_or syncs s.0 nothing)
-statement_at methods events syncs (Stmt.Publish e) = plus one (slice_index_or events e.0 nothing)
+statement_at methods events syncs (Stmt.Register s) = plus one_registered (slice_index_or syncs s.0 no_cost)
+statement_at methods events syncs (Stmt.Publish e) = plus one (slice_index_or events e.0 no_cost)
 statement_at methods events syncs _ = one
 
 -- what the methods cost with calls up to this depth

@@ -4,7 +4,8 @@ ghost use Rattle.stx_scenario.specs.declared.numbers.MethodNo.{MethodNo};
 ghost use Rattle.stx_base.specs.Weight.{IsOnCycle};
 ghost use Rattle.stx_graph.specs.Rows.{RowsInRange, next_in};
 ghost use Rattle.stx_graph.specs.Ranks.{IsFirst};
-ghost use Rattle.stx_graph.specs.Cycles.{AreReached, NoneBelow};
+ghost use Rattle.stx_base.specs.Weight.{HasNoCycle};
+ghost use Rattle.stx_graph.specs.Cycles.{AreReached};
 
 use crate::method_set::MethodSet;
 use crate::rows::Rows;
@@ -15,7 +16,7 @@ use stx_scenario::{MethodNo, NoMemory};
 pub(crate) fn first_on_cycle(alloc: Global, rows: &Rows) -> Result<Option<MethodNo>, NoMemory>
     requires few { length rows.now < 2 ^ 32 }
     requires range { RowsInRange (length rows.now) rows.now }
-    ensures { IfOk result (λ found. MatchOption found (NoneBelow (next_in rows.now) (length rows.now)) (λ m. IsFirst (IsOnCycle (next_in rows.now)) m)) }
+    ensures { IfOk result (λ found. MatchOption found (HasNoCycle (next_in rows.now) (length rows.now)) (λ m. IsFirst (IsOnCycle (next_in rows.now)) m)) }
 {
     for number in 0..rows.len() {
         let method = MethodNo(number as u32);

@@ -38,16 +38,16 @@ pub enum GraphFault {
     TooDeep(MethodNo),
     /// The weight is over 200,000.
     TooLarge,
-    NoMemory,
+    NoMemory(NoMemory),
 }
 
 impl From<NoMemory> for GraphFault {
     ghost use Rattle.stx_graph.specs.declared.graph.GraphFault.{GraphFault};
 
-    ghost from_gives = { λ _ fault. fault ≡ GraphFault.NoMemory };
+    ghost from_gives = { λ refused fault. fault ≡ GraphFault.NoMemory refused };
 
-    fn from(_: NoMemory) -> Self {
-        GraphFault::NoMemory
+    fn from(refused: NoMemory) -> Self {
+        GraphFault::NoMemory(refused)
     }
 }
 
@@ -97,6 +97,6 @@ fn fault_of_depth(alloc: Global, rows: &Rows, method: MethodNo) -> GraphFault
     match first_on_cycle(alloc, rows) {
         Ok(Some(cycle)) => GraphFault::CallCycle(cycle),
         Ok(None) => GraphFault::TooDeep(method),
-        Err(NoMemory) => GraphFault::NoMemory,
+        Err(refused) => GraphFault::NoMemory(refused),
     }
 }

@@ -17,7 +17,9 @@ use Rattle.stx_base.specs.declared.manager.Ending.{Ending}
 use Rattle.stx_base.specs.declared.manager.Round.{Round}
 use Rattle.stx_model.specs.Contexts.{Context, Live, is_active, ordered_labels}
 use Rattle.stx_model.specs.Ending.{Action, RoundBeforeCompletion, RoundAfterCommit, RoundAfterCompletion, CommitStore, RollbackStore, BackToPoint, ReleasePoint, MarkGlobally, ThrowUnexpected, GiveBack, Resumption, completion, completion_after, has_before_commit, ending}
-use Rattle.stx_model.specs.Meanings.{State, Result, Over, Stops, Breaks, Meaning, Note, FromPool, FromStore, finally, say, with_context, with_local, unread, hear, answered, is_answer, ask, on_take, on_begin}
+use Rattle.stx_base.specs.declared.history.Note.{Note}
+use Rattle.stx_base.specs.Notes.{is_answer}
+use Rattle.stx_model.specs.Meanings.{State, Result, Over, Stops, Breaks, Meaning, finally, say, with_context, with_local, unread, hear, answered, ask, on_take, on_begin}
 use Rattle.stx_model.specs.Opening.{opening, opening_in, opening_without, opening_within, owns_fresh}
 use Rattle.stx_model.specs.Rounds.{Calls, round_of, last_round, stopping_round, swallowing_round}
 use Rattle.stx_model.specs.Scopes.{Scope, say_each, say_bind, say_unbind, suspended, resume, resumed, leaves, live_in, later_or, rolls, ruled, is_set, fresh_context, acts, completes, ends, in_scope, begins, opens, intercepted}
@@ -51,27 +53,27 @@ live_at_end P (Some live) next st then = then live
 live_at_end P None next st then = tt
 
 pub hear_keeps : (n : Note) (st : State) → (hear n st).context ≡ st.context × (hear n st).local ≡ st.local
-hear_keeps (FromPool n) st = (refl, refl)
-hear_keeps (FromStore n) st = (refl, refl)
+hear_keeps (Note.Pool n) st = (refl, refl)
+hear_keeps (Note.Store n) st = (refl, refl)
 
 take_at_end : (P : Option ClassNo → State → Type 0) (next : Option ℕ → Meaning) (n : Note) (st : State)
     → ((c : Option ℕ) → AtEnd (next c st) P) → AtEnd (on_take next n st) P
-take_at_end P next (FromPool (PoolNote.Taken c)) st then = then (Some c)
-take_at_end P next (FromPool PoolNote.Empty) st then = then None
-take_at_end P next (FromPool (PoolNote.Given c)) st then = tt
-take_at_end P next (FromStore n) st then = tt
+take_at_end P next (Note.Pool (PoolNote.Taken c)) st then = then (Some c)
+take_at_end P next (Note.Pool PoolNote.Empty) st then = then None
+take_at_end P next (Note.Pool (PoolNote.Given c)) st then = tt
+take_at_end P next (Note.Store n) st then = tt
 
 begin_at_end : (P : Option ClassNo → State → Type 0) (next : ℕ → Meaning) (n : Note) (st : State)
     → ((t : ℕ) → AtEnd (next t st) P) → AtEnd (on_begin next n st) P
-begin_at_end P next (FromStore (StoreNote.Begin t)) st then = then t
-begin_at_end P next (FromStore (StoreNote.Access t r b)) st then = tt
-begin_at_end P next (FromStore (StoreNote.Point t)) st then = tt
-begin_at_end P next (FromStore (StoreNote.BackTo t)) st then = tt
-begin_at_end P next (FromStore (StoreNote.Release t)) st then = tt
-begin_at_end P next (FromStore (StoreNote.Commit t n)) st then = tt
-begin_at_end P next (FromStore (StoreNote.Rollback t)) st then = tt
-begin_at_end P next (FromStore (StoreNote.Auto r b)) st then = tt
-begin_at_end P next (FromPool n) st then = tt
+begin_at_end P next (Note.Store (StoreNote.Begin t)) st then = then t
+begin_at_end P next (Note.Store (StoreNote.Access t r b)) st then = tt
+begin_at_end P next (Note.Store (StoreNote.Point t)) st then = tt
+begin_at_end P next (Note.Store (StoreNote.BackTo t)) st then = tt
+begin_at_end P next (Note.Store (StoreNote.Release t)) st then = tt
+begin_at_end P next (Note.Store (StoreNote.Commit t n)) st then = tt
+begin_at_end P next (Note.Store (StoreNote.Rollback t)) st then = tt
+begin_at_end P next (Note.Store (StoreNote.Auto r b)) st then = tt
+begin_at_end P next (Note.Pool n) st then = tt
 
 -- ---- resumption
 

@@ -1,7 +1,8 @@
 -- A client's own notes in legal histories: no connection is taken that it has out, and no number is begun twice.
-use Rattle.std.proofs.Common.{◌≡◌, ℕ, ℤ, ◌+◌, false, ◌==◌, List, [], ◌∷◌, ◌++◌, length, Some, fold, append-nil, refl, inl, inr, sym, ◌∙◌, subst, arith}
+use Rattle.std.proofs.Common.{◌≡◌, ℕ, ◌+◌, false, ◌==◌, List, [], ◌∷◌, ◌++◌, length, Some, fold, append-nil, refl, inl, inr, sym, ◌∙◌, subst, arith}
 use Rattle.std.specs.List.{IsDistinct, AllByRecursion}
 use Rattle.std.proofs.lemmas.Bool.{false≢true, cases_Bool, cases_eq}
+use Rattle.stx_base.specs.declared.facts.StoreFacts.{StoreFacts}
 use Rattle.stx_base.specs.declared.history.PoolNote.{PoolNote}
 use Rattle.stx_base.specs.declared.history.PoolEntry.{PoolEntry}
 use Rattle.stx_base.specs.declared.history.StoreNote.{StoreNote}
@@ -81,14 +82,14 @@ begins_push notes n fresh new = subst (IsDistinct ◌==◌) (sym (begun-push not
     by_note (StoreNote.Rollback t) h = same
     by_note (StoreNote.Auto a r) h = same
 
-record BegunFresh (clients : ℕ) (values : List ℤ) (client : ℕ) (H : List StoreEntry) : Type 0 where
-  legal : StoreLegal clients values H
+record BegunFresh (clients : ℕ) (facts : StoreFacts) (client : ℕ) (H : List StoreEntry) : Type 0 where
+  legal : StoreLegal clients facts H
   fresh : BeginsFresh (store_notes_of H client)
 
-begins_more : (clients : ℕ) (values : List ℤ) (client : ℕ) (H : List StoreEntry) (e : StoreEntry)
-    → BegunFresh clients values client H → StoreFits clients values H e → BegunFresh clients values client (H ++ e ∷ [])
-begins_more clients values client H e was fits = record {
-  legal = StoreLegal-push clients values H e was.legal fits;
+begins_more : (clients : ℕ) (facts : StoreFacts) (client : ℕ) (H : List StoreEntry) (e : StoreEntry)
+    → BegunFresh clients facts client H → StoreFits clients facts H e → BegunFresh clients facts client (H ++ e ∷ [])
+begins_more clients facts client H e was fits = record {
+  legal = StoreLegal-push clients facts H e was.legal fits;
   fresh = elim (cases_eq e.client client) [
     | inl own ↦ subst BeginsFresh (sym (store_notes_of-push H e client own)) (begins_push (store_notes_of H client) e.note was.fresh not_begun)
     | inr other ↦ subst BeginsFresh (sym (store_notes_of-push_other H e client other)) was.fresh
@@ -97,13 +98,13 @@ begins_more clients values client H e was fits = record {
   where
     not_begun : (t : ℕ) → e.note ≡ StoreNote.Begin t → contains (begun (store_notes_of H client)) t ≡ false
     not_begun t is =
-        let number : t ≡ length (begun (store_notes H)) + 1 = begin_number values H t (subst (λ n. store_reply values H (store_want n) ≡ Some n) is fits.reply) in
-        begun_none (store_notes_of H client) t (none_of (names t) H client (unnamed clients values H was.legal t (omega arith)))
+        let number : t ≡ length (begun (store_notes H)) + 1 = begin_number facts H t (subst (λ n. store_reply facts H (store_want n) ≡ Some n) is fits.reply) in
+        begun_none (store_notes_of H client) t (none_of (names t) H client (unnamed clients facts H was.legal t (omega arith)))
 
-begins_fresh : (clients : ℕ) (values : List ℤ) (client : ℕ) (H : List StoreEntry) → StoreLegal clients values H → BeginsFresh (store_notes_of H client)
+begins_fresh : (clients : ℕ) (facts : StoreFacts) (client : ℕ) (H : List StoreEntry) → StoreLegal clients facts H → BeginsFresh (store_notes_of H client)
 unfolding IsDistinct
-begins_fresh clients values client H legal =
-    (StoreLegal-along clients values (BegunFresh clients values client) (record { legal = tt; fresh = tt }) (begins_more clients values client) H legal).fresh
+begins_fresh clients facts client H legal =
+    (StoreLegal-along clients facts (BegunFresh clients facts client) (record { legal = tt; fresh = tt }) (begins_more clients facts client) H legal).fresh
 
 pub own_notes_fresh : OwnNotesFresh
-own_notes_fresh clients client = (λ size history legal. takes_fresh clients size client history legal, λ values history legal. begins_fresh clients values client history legal)
+own_notes_fresh clients client = (λ size history legal. takes_fresh clients size client history legal, λ facts history legal. begins_fresh clients facts client history legal)

@@ -22,7 +22,9 @@ use Rattle.stx_base.specs.declared.line.Label.{Label}
 use Rattle.stx_base.specs.declared.manager.Round.{Round}
 use Rattle.stx_model.specs.Contexts.{Context, Live, Registration, registered, ordered, with_registration, without_syncs}
 use Rattle.stx_model.specs.Listeners.{Deed, Register, RunNow, Skip, runs_in}
-use Rattle.stx_model.specs.Meanings.{State, Result, Over, Stops, Breaks, Meaning, Note, FromPool, FromStore, and_then, finally, say, with_context, unread, hear, answered, is_answer, ask, on_take, on_access}
+use Rattle.stx_base.specs.declared.history.Note.{Note}
+use Rattle.stx_base.specs.Notes.{is_answer}
+use Rattle.stx_model.specs.Meanings.{State, Result, Over, Stops, Breaks, Meaning, and_then, finally, say, with_context, unread, hear, answered, ask, on_take, on_access}
 use Rattle.stx_model.specs.Statements.{RowAccess, throws, concludes, catches, caught, unless_busy, access_row, nothing_more, value_of, is_value, needed, added, on_row, in_transaction, on_connection, connected, row_statement, marks, registers, register_sync, register_listener}
 use Rattle.stx_model.specs.Rounds.{Calls, Way, Proxied, Direct, sync_body, callback_line, swallows, callback_statement, callback, listens, listens_in, called_back, told, stopping_round, swallowing_round, round_of, last_round}
 use Rattle.stx_model.specs.Assurances.{AtEnd, IsExtended, IsSameTransaction, MayBeMarked, IsKept}
@@ -107,21 +109,21 @@ ask_keeps w next keeps st = by_note (unread w st)
         (subst (λ c. HasKept c (next n (hear n st))) (hear_keeps n st).0 (keeps n (hear n st))) tt
 
 take_keeps : (next : Option ℕ → Meaning) → ((c : Option ℕ) → Keeps (next c)) → (n : Note) → Keeps (on_take next n)
-take_keeps next keeps (FromPool (PoolNote.Taken c)) st = keeps (Some c) st
-take_keeps next keeps (FromPool PoolNote.Empty) st = keeps None st
-take_keeps next keeps (FromPool (PoolNote.Given c)) st = tt
-take_keeps next keeps (FromStore n) st = tt
+take_keeps next keeps (Note.Pool (PoolNote.Taken c)) st = keeps (Some c) st
+take_keeps next keeps (Note.Pool PoolNote.Empty) st = keeps None st
+take_keeps next keeps (Note.Pool (PoolNote.Given c)) st = tt
+take_keeps next keeps (Note.Store n) st = tt
 
 access_keeps : (next : Answer → Meaning) → ((r : Answer) → Keeps (next r)) → (n : Note) → Keeps (on_access next n)
-access_keeps next keeps (FromStore (StoreNote.Access t a r)) st = keeps r st
-access_keeps next keeps (FromStore (StoreNote.Auto a r)) st = keeps r st
-access_keeps next keeps (FromStore (StoreNote.Begin t)) st = tt
-access_keeps next keeps (FromStore (StoreNote.Point t)) st = tt
-access_keeps next keeps (FromStore (StoreNote.BackTo t)) st = tt
-access_keeps next keeps (FromStore (StoreNote.Release t)) st = tt
-access_keeps next keeps (FromStore (StoreNote.Commit t n)) st = tt
-access_keeps next keeps (FromStore (StoreNote.Rollback t)) st = tt
-access_keeps next keeps (FromPool n) st = tt
+access_keeps next keeps (Note.Store (StoreNote.Access t a r)) st = keeps r st
+access_keeps next keeps (Note.Store (StoreNote.Auto a r)) st = keeps r st
+access_keeps next keeps (Note.Store (StoreNote.Begin t)) st = tt
+access_keeps next keeps (Note.Store (StoreNote.Point t)) st = tt
+access_keeps next keeps (Note.Store (StoreNote.BackTo t)) st = tt
+access_keeps next keeps (Note.Store (StoreNote.Release t)) st = tt
+access_keeps next keeps (Note.Store (StoreNote.Commit t n)) st = tt
+access_keeps next keeps (Note.Store (StoreNote.Rollback t)) st = tt
+access_keeps next keeps (Note.Pool n) st = tt
 
 -- ---- statements
 

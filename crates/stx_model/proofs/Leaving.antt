@@ -23,7 +23,8 @@ use Rattle.stx_base.specs.Weight.{body_of, rank}
 use Rattle.stx_model.specs.Contexts.{Context, Live, bare, Registration, is_active, is_live, registered, ordered, with_mark, marked_globally, with_global_mark, without_syncs}
 use Rattle.stx_model.specs.Ending.{Action, RoundBeforeCompletion, RoundAfterCommit, RoundAfterCompletion, Resumption, MarkGlobally, BackToPoint, ReleasePoint, ThrowUnexpected, completion, completion_after, has_before_commit, ending, is_marked, unless_marked}
 use Rattle.stx_model.specs.Listeners.{Deed, Register, RunNow, Skip, deeds}
-use Rattle.stx_model.specs.Meanings.{State, Result, Over, Stops, Breaks, Meaning, Note, and_then, finally, say, with_context, with_local, hear, ask}
+use Rattle.stx_base.specs.declared.history.Note.{Note}
+use Rattle.stx_model.specs.Meanings.{State, Result, Over, Stops, Breaks, Meaning, and_then, finally, say, with_context, with_local, hear, ask}
 use Rattle.stx_model.specs.Opening.{opening, opening_in, opening_within, opening_without, opens_point, owns_empty}
 use Rattle.stx_model.specs.Statements.{caught, marks, register_listener, register_sync}
 use Rattle.stx_model.specs.Rounds.{Calls, Way, Proxied, Direct, callback_statement, listens, swallowing_round, stopping_round, round_of, last_round}

@@ -11,7 +11,7 @@ use Rattle.std.proofs.lemmas.List.Elements.{filter_map-append}
 use Rattle.stx_base.specs.declared.history.Access.{Access}
 use Rattle.stx_base.specs.declared.history.Answer.{Answer}
 use Rattle.stx_base.specs.declared.history.StoreNote.{StoreNote}
-use Rattle.stx_base.specs.Alone.{RowMap, Alone, row_of, applied, found_or_absent, at_start, last_copy, without_last, stepped, after, finding, findings, found_alone, answer_of, answers}
+use Rattle.stx_base.specs.Alone.{RowMap, Alone, row_of, applied, found_or_absent, at_start, innermost, without_innermost, stepped, after, finding, findings, found_alone, answer_of, answers}
 
 -- ---- the rows of a note
 
@@ -57,13 +57,13 @@ same-applied P m n (Access.Erase r) same = λ k p.
 
 same-last_copy :
     (P : ℕ → Type 0) (m n : RowMap) (ms ns : List RowMap) → SameAt P m n → AllZip (SameAt P) ms ns
-    → SameAt P (last_copy m ms) (last_copy n ns)
+    → SameAt P (innermost m ms) (innermost n ns)
 same-last_copy P m n [] [] same _ = same
 same-last_copy P m n (c ∷ ms) (d ∷ ns) _ copies = copies.0
 same-last_copy P m n [] (d ∷ ns) _ copies = absurd copies
 same-last_copy P m n (c ∷ ms) [] _ copies = absurd copies
 
-same-without_last : (P : ℕ → Type 0) (ms ns : List RowMap) → AllZip (SameAt P) ms ns → AllZip (SameAt P) (without_last ms) (without_last ns)
+same-without_last : (P : ℕ → Type 0) (ms ns : List RowMap) → AllZip (SameAt P) ms ns → AllZip (SameAt P) (without_innermost ms) (without_innermost ns)
 same-without_last P [] [] _ = tt
 same-without_last P (c ∷ ms) (d ∷ ns) copies = copies.1
 same-without_last P [] (d ∷ ns) copies = absurd copies
@@ -108,13 +108,13 @@ unwritten-applied k m (Access.Erase r) h = get-remove nat_cmp_total m r.0 k ∙ 
 
 unwritten-last_copy :
     (k : ℕ) (v : Option ℤ) (m : RowMap) (ms : List RowMap) → finite.get m k ≡ v → AllByRecursion (λ (m : RowMap). finite.get m k ≡ v) ms
-    → finite.get (last_copy m ms) k ≡ v
+    → finite.get (innermost m ms) k ≡ v
 unwritten-last_copy k v m [] rows _ = rows
 unwritten-last_copy k v m (c ∷ ms) _ copies = copies.0
 
 unwritten-without_last :
     (k : ℕ) (v : Option ℤ) (ms : List RowMap) → AllByRecursion (λ (m : RowMap). finite.get m k ≡ v) ms
-    → AllByRecursion (λ (m : RowMap). finite.get m k ≡ v) (without_last ms)
+    → AllByRecursion (λ (m : RowMap). finite.get m k ≡ v) (without_innermost ms)
 unwritten-without_last k v [] copies = tt
 unwritten-without_last k v (c ∷ ms) copies = copies.1
 

@@ -1,10 +1,11 @@
 -- The journal of a history that grows: its transactions stay as they are, and a new one comes last.
-use Rattle.std.proofs.Common.{◌≡◌, ℕ, ℤ, zero, suc, true, false, List, [], ◌∷◌, ◌++◌, Option, Some, None, take, slice_get, refl, subst, eq-eqb, filter_map}
+use Rattle.std.proofs.Common.{◌≡◌, ℕ, zero, suc, true, false, List, [], ◌∷◌, ◌++◌, Option, Some, None, take, slice_get, refl, subst, eq-eqb, filter_map}
 use Rattle.std.specs.Bool.{⊤}
 use Rattle.std.specs.List.{list_any, cons_option}
 use Rattle.std.proofs.lemmas.Bool.{or_left, or_parts, and_parts, not-true, both_ways, false_from_ne_true}
 use Rattle.std.proofs.lemmas.List.Elements.{filter_map-append}
 use Rattle.std.proofs.lemmas.List.Sums.{fold-append}
+use Rattle.stx_base.specs.declared.facts.StoreFacts.{StoreFacts}
 use Rattle.stx_base.specs.declared.history.StoreNote.{StoreNote}
 use Rattle.stx_base.specs.declared.history.StoreEntry.{StoreEntry}
 use Rattle.stx_base.specs.Alone.{RowMap, first_rows, after}
@@ -37,8 +38,8 @@ serial_at rows [] all n j at = absurd (nothing at)
 serial_at rows (i ∷ js) all zero j at = let same : i ≡ j = cc in subst (λ (x : Transaction). FindsAnswers rows x.work) same all.0
 serial_at rows (i ∷ js) all (suc n) j at = serial_at (after rows i.work) js all.1 n j at
 
-pub serial_from : (values : List ℤ) (history : List StoreEntry) → SerialFrom (first_rows values) (journal history) → Serial values history
-serial_from values history all = serial_at (first_rows values) (journal history) all
+pub serial_from : (facts : StoreFacts) (history : List StoreEntry) → SerialFrom (first_rows facts.values) (journal history) → Serial facts history
+serial_from facts history all = serial_at (first_rows facts.values) (journal history) all
 
 -- ---- one more entry
 
@@ -75,7 +76,7 @@ journal_push history e sound =
     unended t h = not-true _ (and_parts _ _ (rw (live-is (store_notes history) t) at (sound.live t (or_left _ _ h)))).0
 
 pub rows_push :
-    (values : List ℤ) (history : List StoreEntry) (e : StoreEntry) → Sound (store_notes history) e.note
-    → committed_rows values (history ++ e ∷ []) ≡ after_all (committed_rows values history) (cons_option (joining history e) [])
-rows_push values history e sound =
-    rw (journal_push history e sound) (fold-append _ (first_rows values) (journal history) (cons_option (joining history e) []))
+    (facts : StoreFacts) (history : List StoreEntry) (e : StoreEntry) → Sound (store_notes history) e.note
+    → committed_rows facts.values (history ++ e ∷ []) ≡ after_all (committed_rows facts.values history) (cons_option (joining history e) [])
+rows_push facts history e sound =
+    rw (journal_push history e sound) (fold-append _ (first_rows facts.values) (journal history) (cons_option (joining history e) []))

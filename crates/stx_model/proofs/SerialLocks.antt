@@ -1,8 +1,9 @@
 -- Locks in a legal history: a row that a live transaction has written no other live transaction has reached.
-use Rattle.std.proofs.Common.{◌≡◌, ℕ, ℤ, Bool, true, false, not, ◌&&◌, ◌||◌, ◌==◌, cond, List, [], ◌∷◌, ◌++◌, Option, Some, refl, sym, ap, ◌∙◌, ⊎_elim, inl, inr, ◌⊎◌, arith, eqb-true, append-nil}
+use Rattle.std.proofs.Common.{◌≡◌, ℕ, Bool, true, false, not, ◌&&◌, ◌||◌, ◌==◌, cond, List, [], ◌∷◌, ◌++◌, Option, Some, refl, sym, ap, ◌∙◌, ⊎_elim, inl, inr, ◌⊎◌, arith, eqb-true, append-nil}
 use Rattle.std.specs.List.{list_any}
 use Rattle.std.proofs.lemmas.Bool.{or_cases, or_parts, and_parts, and_from, not-true, not_from_false, false≢true, true≢false}
 use Rattle.std.proofs.lemmas.List.Elements.{filter-append}
+use Rattle.stx_base.specs.declared.facts.StoreFacts.{StoreFacts}
 use Rattle.stx_base.specs.declared.history.Access.{Access}
 use Rattle.stx_base.specs.declared.history.Answer.{Answer}
 use Rattle.stx_base.specs.declared.history.StoreNote.{StoreNote}
@@ -10,7 +11,7 @@ use Rattle.stx_base.specs.declared.history.StoreEntry.{StoreEntry}
 use Rattle.stx_base.specs.Alone.{row_of}
 use Rattle.stx_base.specs.Histories.{store_notes}
 use Rattle.stx_base.specs.Pools.{contains}
-use Rattle.stx_base.specs.Stores.{ends, live, is_live, is_busy, takes, holders, is_caller, conflicts, least, works, work, busy_or, access_answer, auto_answer, store_reply, store_want}
+use Rattle.stx_base.specs.Stores.{ends, live, is_live, is_busy, takes, holders, is_caller, conflicts, smallest, works, work, busy_or, access_answer, auto_answer, store_reply, store_want}
 use Rattle.stx_model.proofs.SerialLists.{any-filter, any-same, any_push, any_since, contains-filter}
 use Rattle.stx_model.proofs.SerialAlone.{reaches, writes, reaches-since_writes}
 use Rattle.stx_model.proofs.SerialNames.{begins, names, Sound, live-is}
@@ -81,11 +82,11 @@ holds-is notes k t =
 
 -- where nobody is in the way of a caller, whoever reaches the row is the caller
 pub free_row :
-    (notes : List StoreNote) (k : ℕ) (caller : Option ℕ) → conflicts notes k caller ≡ [] → (u : ℕ) → is_live notes u ≡ true
-    → list_any (reaches k) (work notes u) ≡ true → is_caller caller u ≡ true
-free_row notes k caller free u live reached =
+    (facts : StoreFacts) (notes : List StoreNote) (caller : Option ℕ) (a : Access) → conflicts facts notes caller a ≡ [] → (u : ℕ) → is_live notes u ≡ true
+    → list_any (reaches (row_of a)) (work notes u) ≡ true → is_caller caller u ≡ true
+free_row facts notes caller a free u live reached =
     let none = ap (λ others. contains others u) free in
-    let parts = rw (contains-filter (λ t. not (is_caller caller t)) (holders notes k) u, holds-is notes k u, live, reached) at none in
+    let parts = rw (contains-filter (λ t. not (is_caller caller t)) (holders notes (row_of a)) u, holds-is notes (row_of a) u, live, reached) at none in
     grind arith
 
 -- ---- what is written by one live transaction is reached by no other
@@ -103,56 +104,56 @@ pub record Granted (notes : List StoreNote) (n : StoreNote) : Type 0 where
       (t u k : ℕ) → works t n ≡ true → reaches k n ≡ true → is_live notes u ≡ true → list_any (writes k) (work notes u) ≡ true → u ≡ t
 
 -- an answer that isn't busy is what the access finds, and then nobody is in the way
-pub not_busy : (others : List ℕ) (found r : Answer) → busy_or (least others) found ≡ r → is_busy r ≡ false → (others ≡ []) × (found ≡ r)
+pub not_busy : (others : List ℕ) (found r : Answer) → busy_or (smallest others) found ≡ r → is_busy r ≡ false → (others ≡ []) × (found ≡ r)
 not_busy [] found r same free = (refl, same)
 not_busy (t ∷ others) found r same free = absurd (true≢false (ap is_busy same ∙ free))
 
 pub access_reply :
-    (values : List ℤ) (before : List StoreEntry) (t : ℕ) (a : Access) (r : Answer)
-    → store_reply values before (store_want (StoreNote.Access t a r)) ≡ Some (StoreNote.Access t a r) → access_answer values before t a ≡ r
+    (facts : StoreFacts) (before : List StoreEntry) (t : ℕ) (a : Access) (r : Answer)
+    → store_reply facts before (store_want (StoreNote.Access t a r)) ≡ Some (StoreNote.Access t a r) → access_answer facts before t a ≡ r
 unfolding store_reply
-access_reply values before t a r reply = answered _ reply
+access_reply facts before t a r reply = answered _ reply
   where
     answered : (x : Answer) → ◌≡◌ {A = Option StoreNote} (Some (StoreNote.Access t a x)) (Some (StoreNote.Access t a r)) → x ≡ r
     answered x e = cc
 
 pub auto_reply :
-    (values : List ℤ) (before : List StoreEntry) (a : Access) (r : Answer)
-    → store_reply values before (store_want (StoreNote.Auto a r)) ≡ Some (StoreNote.Auto a r) → auto_answer values before a ≡ r
+    (facts : StoreFacts) (before : List StoreEntry) (a : Access) (r : Answer)
+    → store_reply facts before (store_want (StoreNote.Auto a r)) ≡ Some (StoreNote.Auto a r) → auto_answer facts before a ≡ r
 unfolding store_reply
-auto_reply values before a r reply = answered _ reply
+auto_reply facts before a r reply = answered _ reply
   where
     answered : (x : Answer) → ◌≡◌ {A = Option StoreNote} (Some (StoreNote.Auto a x)) (Some (StoreNote.Auto a r)) → x ≡ r
     answered x e = cc
 
 -- whoever reaches the row of an access that works is its own transaction
 alone_there :
-    (values : List ℤ) (before : List StoreEntry) (s : ℕ) (a : Access) (r : Answer) → access_answer values before s a ≡ r → (t u k : ℕ)
+    (facts : StoreFacts) (before : List StoreEntry) (s : ℕ) (a : Access) (r : Answer) → access_answer facts before s a ≡ r → (t u k : ℕ)
     → ((s == t) && not (is_busy r)) ≡ true → (row_of a == k) ≡ true → is_live (store_notes before) u ≡ true
     → list_any (reaches k) (work (store_notes before) u) ≡ true → t ≡ u
-alone_there values before s a r reply t u k works here live reached =
+alone_there facts before s a r reply t u k works here live reached =
     let parts = and_parts _ _ works in
-    let free = (not_busy (conflicts (store_notes before) (row_of a) (Some s)) _ r reply (not-true _ parts.1)).0 in
+    let free = (not_busy (conflicts facts (store_notes before) (Some s) a) _ r reply (not-true _ parts.1)).0 in
     let row : row_of a ≡ k = eqb-true _ _ here in
-    let own = free_row (store_notes before) (row_of a) (Some s) free u live (rw row reached) in
+    let own = free_row facts (store_notes before) (Some s) a free u live (rw row reached) in
     sym (eqb-true s t parts.0) ∙ sym (eqb-true u s own)
 
 pub granted :
-    (values : List ℤ) (before : List StoreEntry) (n : StoreNote) → store_reply values before (store_want n) ≡ Some n
+    (facts : StoreFacts) (before : List StoreEntry) (n : StoreNote) → store_reply facts before (store_want n) ≡ Some n
     → Granted (store_notes before) n
-granted values before (StoreNote.Access s a r) reply =
-    let given = access_reply values before s a r reply in record {
+granted facts before (StoreNote.Access s a r) reply =
+    let given = access_reply facts before s a r reply in record {
       written = λ t u k works here live reached.
-          alone_there values before s a r given t u k works (reaches-since_writes k (StoreNote.Access s a r) here) live reached;
+          alone_there facts before s a r given t u k works (reaches-since_writes k (StoreNote.Access s a r) here) live reached;
       reached = λ t u k works here live written.
           let there = any_since (writes k) (reaches k) (reaches-since_writes k) (work (store_notes before) u) written in
-          sym (alone_there values before s a r given t u k works here live there);
+          sym (alone_there facts before s a r given t u k works here live there);
     }
-granted values before (StoreNote.Auto a r) reply = record {
+granted facts before (StoreNote.Auto a r) reply = record {
   written = λ t u k works here live reached. absurd (false≢true works);
   reached = λ t u k works here live written. absurd (false≢true works);
 }
-granted values before _ reply = record {
+granted facts before _ reply = record {
   written = λ t u k works here live reached. absurd (false≢true here);
   reached = λ t u k works here live written. absurd (false≢true here);
 }

@@ -1,9 +1,10 @@
 -- Names of transactions in a legal history: each is begun once, by one client, and only that client uses it, while it lives.
-use Rattle.std.proofs.Common.{◌≡◌, ℕ, ℤ, ◌+◌, ◌≤◌, Bool, true, false, not, ◌&&◌, ◌||◌, ◌==◌, List, [], ◌∷◌, ◌++◌, Option, Some, length, refl, sym, ◌∙◌, ⊎_elim, inl, inr, arith, eq-eqb, eqb-true, filter, length-append, ◌⊎◌, le_trans}
+use Rattle.std.proofs.Common.{◌≡◌, ℕ, ◌+◌, ◌≤◌, Bool, true, false, not, ◌&&◌, ◌||◌, ◌==◌, List, [], ◌∷◌, ◌++◌, Option, Some, length, refl, sym, ◌∙◌, ⊎_elim, inl, inr, arith, eq-eqb, eqb-true, filter, length-append, ◌⊎◌, le_trans}
 use Rattle.std.specs.List.{list_any}
 use Rattle.std.proofs.lemmas.Bool.{or_cases, or_left, or_right, and_parts, and_from, not-true, not_from_false, both_ways, false≢true, true≢false, false_from_ne_true}
 use Rattle.std.proofs.lemmas.List.{map_push}
 use Rattle.std.proofs.lemmas.List.Elements.{filter_map-append}
+use Rattle.stx_base.specs.declared.facts.StoreFacts.{StoreFacts}
 use Rattle.stx_base.specs.declared.history.StoreNote.{StoreNote}
 use Rattle.stx_base.specs.declared.history.StoreEntry.{StoreEntry}
 use Rattle.stx_base.specs.Histories.{store_notes, store_notes_of}
@@ -101,21 +102,21 @@ proper_live own (StoreNote.Rollback u) t proper h = let same : u ≡ t = grind a
 proper_live own _ t proper h = absurd (false≢true h)
 
 reply_fresh :
-    (values : List ℤ) (before : List StoreEntry) (n : StoreNote) (t : ℕ) → store_reply values before (store_want n) ≡ Some n
+    (facts : StoreFacts) (before : List StoreEntry) (n : StoreNote) (t : ℕ) → store_reply facts before (store_want n) ≡ Some n
     → begins t n ≡ true → t ≡ length (begun (store_notes before)) + 1
 unfolding store_reply
-reply_fresh values before (StoreNote.Begin u) t reply h =
+reply_fresh facts before (StoreNote.Begin u) t reply h =
     let same : u ≡ t = eqb-true u t h in rw (← same) (numbers _ _ reply)
   where
     numbers : (a b : ℕ) → ◌≡◌ {A = Option StoreNote} (Some (StoreNote.Begin a)) (Some (StoreNote.Begin b)) → b ≡ a
     numbers a b e = cc
-reply_fresh values before _ t reply h = absurd (false≢true h)
+reply_fresh facts before _ t reply h = absurd (false≢true h)
 
 pub names_fit :
-    (clients : ℕ) (values : List ℤ) (before : List StoreEntry) (e : StoreEntry) → StoreFits clients values before e → NamesFit before e
-names_fit clients values before e fits = record {
+    (clients : ℕ) (facts : StoreFacts) (before : List StoreEntry) (e : StoreEntry) → StoreFits clients facts before e → NamesFit before e
+names_fit clients facts before e fits = record {
   live = λ t h. proper_live (store_notes_of before e.client) e.note t fits.proper h;
-  fresh = λ t h. reply_fresh values before e.note t fits.reply h;
+  fresh = λ t h. reply_fresh facts before e.note t fits.reply h;
 }
 
 -- the next number nobody has begun, and so nobody has named it

@@ -12,7 +12,9 @@ use Rattle.stx_base.specs.declared.manager.Ending.{Ending}
 use Rattle.stx_base.specs.declared.manager.Round.{Round}
 use Rattle.stx_model.specs.Contexts.{Live}
 use Rattle.stx_model.specs.Ending.{Action, RoundBeforeCompletion, CommitStore, RoundAfterCommit, RoundAfterCompletion, GiveBack, Resumption, completion, completion_after, has_before_commit}
-use Rattle.stx_model.specs.Meanings.{State, Result, Over, Breaks, Note, FromStore, finally, hear, ask, answered, is_answer}
+use Rattle.stx_base.specs.declared.history.Note.{Note}
+use Rattle.stx_base.specs.Notes.{is_answer}
+use Rattle.stx_model.specs.Meanings.{State, Result, Over, Breaks, finally, hear, ask, answered}
 use Rattle.stx_model.specs.Rounds.{Calls, round_of, last_round, stopping_round, swallowing_round}
 use Rattle.stx_model.specs.Scopes.{Scope, live_in, later_or, acts, completes}
 use Rattle.stx_model.specs.Assurances.{AtEnd, AfterCommitComesTooLate, AfterCommitThrowsToTheCaller}
@@ -47,12 +49,12 @@ module _ (S : Scenario) (calls : Calls) (scope : Scope) where
 
   store_commits : (rest : List Action) (x : Option ClassNo) (completed : State) (live : Live) (number : ℕ)
       → completed.context.tx ≡ Some live → slice_get completed.store 0 ≡ Some (StoreNote.Commit live.transaction number)
-      → Acts (CommitStore ∷ rest) x completed ≡ Acts rest x (hear (FromStore (StoreNote.Commit live.transaction number)) completed)
+      → Acts (CommitStore ∷ rest) x completed ≡ Acts rest x (hear (Note.Store (StoreNote.Commit live.transaction number)) completed)
   unfolding acts ask
   store_commits rest x completed live number is_live noted =
-      let note : Note = FromStore (StoreNote.Commit live.transaction number) in
+      let note : Note = Note.Store (StoreNote.Commit live.transaction number) in
       ap (λ tx. live_in tx (λ live. ask (Want.Commit live.transaction) (λ _. Acts rest x)) completed) is_live
-      ∙ ap (λ o. answered (Want.Commit live.transaction) (λ _. Acts rest x) completed (option_map FromStore o)) noted
+      ∙ ap (λ o. answered (Want.Commit live.transaction) (λ _. Acts rest x) completed (option_map Note.Store o)) noted
       ∙ ap (λ b. elim b [ true ↦ Acts rest x (hear note completed) | false ↦ Breaks completed ]) (same_number live.transaction)
 
   thrown_goes_on : (rest : List Action) (x : Option ClassNo) (y : ClassNo) (st after : State)
@@ -68,7 +70,7 @@ after_commit_comes_too_late S calls scope x z y live number st before completed 
     ∙ swallowed_goes_on S calls scope (CommitStore ∷ after_the_commit S calls scope) x z before completed swallowed
     ∙ store_commits S calls scope (after_the_commit S calls scope) x completed live number is_live noted
     ∙ thrown_goes_on S calls scope (RoundAfterCompletion true ∷ GiveBack ∷ Resumption ∷ []) x y
-    (hear (FromStore (StoreNote.Commit live.transaction number)) completed) after thrown
+    (hear (Note.Store (StoreNote.Commit live.transaction number)) completed) after thrown
 
 pub after_commit_throws_to_the_caller : AfterCommitThrowsToTheCaller
 unfolding acts

@@ -13,7 +13,8 @@ use Rattle.stx_base.specs.declared.manager.Ending.{Ending}
 use Rattle.stx_base.specs.declared.manager.Round.{Round}
 use Rattle.stx_model.specs.Contexts.{Context, Live, Registration}
 use Rattle.stx_model.specs.Ending.{GiveBack, Resumption}
-use Rattle.stx_model.specs.Meanings.{State, Result, Over, Meaning, FromStore, finally, hear}
+use Rattle.stx_base.specs.declared.history.Note.{Note}
+use Rattle.stx_model.specs.Meanings.{State, Result, Over, Meaning, finally, hear}
 use Rattle.stx_model.specs.Rounds.{Calls, round_of, last_round, stopping_round, swallowing_round}
 use Rattle.stx_base.specs.Weight.{body_of}
 use Rattle.stx_model.specs.Opening.{opening}
@@ -60,7 +61,7 @@ AfterCommitComesTooLate =
     → round_of scope.owns (swallowing_round S calls Round.BeforeCompletion false) before ≡ Over z completed
     → completed.context.tx ≡ Some live
     → slice_get completed.store 0 ≡ Some (StoreNote.Commit live.transaction number)
-    → round_of scope.owns (stopping_round S calls Round.AfterCommit) (hear (FromStore (StoreNote.Commit live.transaction number)) completed) ≡ Over (Some y) after
+    → round_of scope.owns (stopping_round S calls Round.AfterCommit) (hear (Note.Store (StoreNote.Commit live.transaction number)) completed) ≡ Over (Some y) after
     → completes S calls scope Ending.Commit x st
     ≡ finally (last_round S calls scope.owns true after) (λ _. acts S calls scope (GiveBack ∷ Resumption ∷ []) (Some y))
 

@@ -7,7 +7,7 @@ use Rattle.stx_base.specs.declared.line.Line.{Line}
 use Rattle.stx_base.specs.declared.outcome.Outcome.{Outcome}
 use Rattle.stx_base.specs.Histories.{pool_notes, store_notes, pool_notes_of, store_notes_of}
 use Rattle.stx_base.specs.Pools.{out}
-use Rattle.stx_base.specs.Stores.{live}
+use Rattle.stx_base.specs.Stores.{live, store_facts}
 use Rattle.stx_base.specs.Legal.{PoolLegal, StoreLegal}
 use Rattle.stx_base.specs.Serial.{Serial}
 use Rattle.stx_model.specs.Meanings.{Result, state_of, stop_of}
@@ -77,8 +77,8 @@ pub record IsBack (O : Outcome) : Type 0 where
 -- serial in the order of the journal, and everything is back
 pub record Faithful (S : Scenario) (O : Outcome) : Type 0 where
   pub pool_legal : PoolLegal (length S.clients) S.settings.pool O.pool
-  pub store_legal : StoreLegal (length S.clients) S.values O.store
+  pub store_legal : StoreLegal (length S.clients) (store_facts S) O.store
   pub one_trace_each : length O.lines ≡ length S.clients
   pub scripts : (c : ℕ) → c < length S.clients → IsPlayedOut S O c
-  pub serial : Serial S.values O.store
+  pub serial : Serial (store_facts S) O.store
   pub back : IsBack O

@@ -1,6 +1,7 @@
 -- The laws that public functions carry.
-use Rattle.std.specs.Prelude.{◌≡◌, ℕ, ℤ, ◌+◌, ◌*◌, ◌<◌, ◌≤◌, List, [], map, length, Some}
+use Rattle.std.specs.Prelude.{◌≡◌, ℕ, ◌+◌, ◌*◌, ◌<◌, ◌≤◌, List, [], map, length, Some}
 use Rattle.stx_scenario.specs.declared.scenario.Scenario.{Scenario}
+use Rattle.stx_base.specs.declared.facts.StoreFacts.{StoreFacts}
 use Rattle.stx_base.specs.declared.call.Want.{Want}
 use Rattle.stx_base.specs.declared.history.PoolNote.{PoolNote}
 use Rattle.stx_base.specs.declared.history.PoolEntry.{PoolEntry}
@@ -9,30 +10,31 @@ use Rattle.stx_base.specs.declared.history.StoreEntry.{StoreEntry}
 use Rattle.stx_model.specs.Faithful.{Faithful, IsBalanced, connection_bracket, transaction_bracket}
 use Rattle.stx_model.specs.Played.{Turns, want_so_far, outcome_of}
 use Rattle.stx_model.specs.Flat.{flat_weight}
-use Rattle.stx_base.specs.Histories.{pool_notes_of, store_notes_of, total}
+use Rattle.stx_base.specs.Limits.{most_weight, notes_a_unit}
+use Rattle.stx_base.specs.Histories.{pool_notes_of, store_notes_of, sum_below}
 use Rattle.stx_base.specs.Legal.{PoolLegal, StoreLegal}
 use Rattle.stx_model.specs.Meanings.{State, Stops, state_of}
 use Rattle.stx_base.specs.Pools.{out}
 use Rattle.stx_model.specs.Reads.{IsEndOf, ReadsAll, notes_read, TakesFresh, BeginsFresh, IsProperAfter}
 use Rattle.stx_model.specs.Script.{script}
 use Rattle.stx_base.specs.Serial.{Serial}
-use Rattle.stx_base.specs.Stores.{live}
+use Rattle.stx_base.specs.Stores.{live, store_facts}
 
 -- a legal history of the store is serial
 abbrev pub JournalIsSerial : Type 0
-JournalIsSerial = (clients : ℕ) (values : List ℤ) (history : List StoreEntry) → StoreLegal clients values history → Serial values history
+JournalIsSerial = (clients : ℕ) (facts : StoreFacts) (history : List StoreEntry) → StoreLegal clients facts history → Serial facts history
 
 -- over any notes, the scripts of all clients together read at most eight notes for each unit of weight
 abbrev pub ReadsWithin : Type 0
 ReadsWithin = (S : Scenario) (pool : ℕ → List PoolNote) (store : ℕ → List StoreNote)
-    → total (length S.clients) (λ c. notes_read S c (pool c) (store c)) ≤ 8 * flat_weight S
+    → sum_below (length S.clients) (λ c. notes_read S c (pool c) (store c)) ≤ notes_a_unit * flat_weight S
 
 -- legal histories whose notes the clients' scripts have all read have at most eight entries for each unit of weight
 abbrev pub EntriesWithin : Type 0
 EntriesWithin = (S : Scenario) (pool : List PoolEntry) (store : List StoreEntry)
-    → PoolLegal (length S.clients) S.settings.pool pool → StoreLegal (length S.clients) S.values store
+    → PoolLegal (length S.clients) S.settings.pool pool → StoreLegal (length S.clients) (store_facts S) store
     → ((c : ℕ) → c < length S.clients → ReadsAll S c (pool_notes_of pool c) (store_notes_of store c))
-    → length pool + length store ≤ 8 * flat_weight S
+    → length pool + length store ≤ notes_a_unit * flat_weight S
 
 -- what a script leaves unread is the end of the notes it was given, whatever its own end
 abbrev pub ReadsInOrder : Type 0
@@ -43,11 +45,11 @@ ReadsInOrder = (S : Scenario) (c : ℕ) (pool : List PoolNote) (store : List Sto
 abbrev pub OwnNotesFresh : Type 0
 OwnNotesFresh = (clients client : ℕ)
     → ((size : ℕ) (history : List PoolEntry) → PoolLegal clients size history → TakesFresh (pool_notes_of history client))
-    × ((values : List ℤ) (history : List StoreEntry) → StoreLegal clients values history → BeginsFresh (store_notes_of history client))
+    × ((facts : StoreFacts) (history : List StoreEntry) → StoreLegal clients facts history → BeginsFresh (store_notes_of history client))
 
 -- in a scenario that isn't too heavy, where a script wants a call and leaves no note unread, the call is proper after them
 abbrev pub WantsProper : Type 0
-WantsProper = (S : Scenario) → flat_weight S ≤ 200000
+WantsProper = (S : Scenario) → flat_weight S ≤ most_weight
     → (c : ℕ) (pool : List PoolNote) (store : List StoreNote) (want : Want) (end : State)
     → script S c pool store ≡ Stops want end → end.pool ≡ [] → end.store ≡ [] → IsProperAfter pool store want
 
@@ -66,7 +68,7 @@ GivesAllBack = (S : Scenario) (c : ℕ) (pool : List PoolNote) (store : List Sto
 -- what a play leaves is a faithful run, where the histories are legal, each script has read all of its notes, and each is done
 abbrev pub DoneIsFaithful : Type 0
 DoneIsFaithful = (S : Scenario) (so_far : Turns)
-    → PoolLegal (length S.clients) S.settings.pool so_far.pool → StoreLegal (length S.clients) S.values so_far.store
+    → PoolLegal (length S.clients) S.settings.pool so_far.pool → StoreLegal (length S.clients) (store_facts S) so_far.store
     → ((c : ℕ) → c < length S.clients → ReadsAll S c (pool_notes_of so_far.pool c) (store_notes_of so_far.store c))
     → ((c : ℕ) → c < length S.clients → want_so_far S so_far c ≡ Some Want.Done)
     → Faithful S (outcome_of S so_far)

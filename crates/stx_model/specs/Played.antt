@@ -9,9 +9,10 @@ use Rattle.stx_base.specs.declared.history.StoreNote.{StoreNote}
 use Rattle.stx_base.specs.declared.history.StoreEntry.{StoreEntry}
 use Rattle.stx_base.specs.declared.line.Line.{Line}
 use Rattle.stx_base.specs.declared.outcome.Outcome.{Outcome}
+use Rattle.stx_base.specs.Limits.{notes_a_unit}
 use Rattle.stx_base.specs.Histories.{pool_notes_of, store_notes_of}
 use Rattle.stx_base.specs.Pools.{pool_reply}
-use Rattle.stx_base.specs.Stores.{store_reply}
+use Rattle.stx_base.specs.Stores.{store_reply, store_facts}
 use Rattle.stx_model.specs.Meanings.{Result, state_of, stop_of}
 use Rattle.stx_model.specs.Script.{script}
 use Rattle.stx_model.specs.Flat.{flat_weight}
@@ -44,7 +45,7 @@ with_store so_far c None = so_far
 abbrev pub replied : Scenario → Turns → ℕ → Option Want → Turns
 replied S so_far c (Some Want.Take) = with_pool so_far c (pool_reply S.settings.pool so_far.pool Want.Take)
 replied S so_far c (Some (Want.Give n)) = with_pool so_far c (pool_reply S.settings.pool so_far.pool (Want.Give n))
-replied S so_far c (Some want) = with_store so_far c (store_reply S.values so_far.store want)
+replied S so_far c (Some want) = with_store so_far c (store_reply (store_facts S) so_far.store want)
 replied S so_far c None = so_far
 
 -- a turn of client c
@@ -58,7 +59,7 @@ turns S c (suc n) so_far = turns S c n (turn S so_far c)
 
 -- the most shared calls that all clients together make
 abbrev pub most_calls : Scenario → ℕ
-most_calls S = 8 * flat_weight S
+most_calls S = notes_a_unit * flat_weight S
 
 -- a client to its end: a turn of a client that is done does nothing
 abbrev pub run_out : Scenario → Turns → ℕ → Turns

@@ -1,10 +1,12 @@
 // Reading a source to its end, and writing a whole slice to a sink.
 ghost use Rattle.std.specs.Prelude.{◌≡◌, ◌≢◌, ℕ, ◌+◌, ◌≤◌, vec_len, IfOk, OnOk, OnErr, IsErrOf};
-ghost use Rattle.stx_outside.specs.declared.whole.ReadEnd.TheVariants.{Fault, NoMemory};
+ghost use Rattle.stx_outside.specs.declared.whole.ReadEnd.TheVariants.{Fault, NoMemory as Refused};
+ghost use Rattle.stx_scenario.specs.Memory.{no_memory};
 ghost use Rattle.stx_outside.specs.Streams.{GainsEnd, GainsPrefix, HasCause, LosesAll, LosesMore, LosesWithin, Rose, TellsAlike};
 
 use crate::{Failed, Sink, Source};
 use std::alloc::{AllocError, Global};
+use stx_scenario::NoMemory;
 
 // The most bytes that one read asks for.
 const PIECE: usize = 4096;
@@ -17,7 +19,7 @@ pub enum ReadEnd {
     /// More bytes came than the limit.
     TooLong,
     /// An allocation was refused.
-    NoMemory,
+    NoMemory(NoMemory),
 }
 
 impl From<Failed> for ReadEnd {
@@ -29,10 +31,10 @@ impl From<Failed> for ReadEnd {
 }
 
 impl From<AllocError> for ReadEnd {
-    ghost from_gives = { λ _ end. end ≡ NoMemory };
+    ghost from_gives = { λ _ end. end ≡ Refused no_memory };
 
-    fn from(_: AllocError) -> Self {
-        ReadEnd::NoMemory
+    fn from(refused: AllocError) -> Self {
+        ReadEnd::NoMemory(refused.into())
     }
 }
 
@@ -46,7 +48,7 @@ pub fn read_whole<S: Source>(
     ensures whole { IfOk result (λ bytes. LosesAll (S.left source.old) (S.left source.new) bytes.items) }
     ensures within { IfOk result (λ bytes. vec_len bytes ≤ limit) }
     ensures too_long { IsErrOf result ReadEnd.TooLong → LosesMore limit (S.left source.old) (S.left source.new) }
-    ensures no_memory { IsErrOf result ReadEnd.NoMemory → LosesWithin limit (S.left source.old) (S.left source.new) }
+    ensures no_memory { IsErrOf result (ReadEnd.NoMemory no_memory) → LosesWithin limit (S.left source.old) (S.left source.new) }
     ensures told { TellsAlike (S.left source.old) (S.left source.new) }
 
     // The count of faults rises at a fault alone.

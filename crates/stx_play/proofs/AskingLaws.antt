@@ -9,9 +9,9 @@ use Rattle.stx_base.specs.declared.history.Answer.{Answer}
 use Rattle.stx_base.specs.declared.history.StoreNote.{StoreNote}
 use Rattle.stx_base.specs.declared.history.StoreEntry.{StoreEntry}
 use Rattle.stx_base.specs.Alone.{RowMap, finds, found_or_absent}
-use Rattle.stx_model.specs.Meanings.{suits}
+use Rattle.stx_base.specs.Notes.{suits}
 use Rattle.stx_base.specs.Stores.{busy_or, access_answer, auto_answer, store_reply}
-use Rattle.stx_client.specs.View.{is_reply_to}
+use Rattle.stx_base.specs.Notes.{is_reply_to}
 use Rattle.stx_client.proofs.ReplyLaws.{access_reply, auto_reply}
 
 suits_found : (k : RowNo) (o : Option ℤ) → suits (Access.Read k) (found_or_absent o) ≡ true

@@ -21,7 +21,8 @@ use Rattle.stx_base.proofs.LegalLaws.{PoolLegal-push, StoreLegal-push, PoolFits-
 use Rattle.stx_base.proofs.HistoryLaws.{pool_notes_of-push, pool_notes_of-push_other, store_notes_of-push, store_notes_of-push_other}
 use Rattle.stx_model.proofs.FreshLaw.{own_notes_fresh}
 use Rattle.stx_model.proofs.ProperLaw.{wants_proper}
-use Rattle.stx_client.specs.View.{Playing as ClientView, script_of, pool_call_want, store_call_want, pool_note, store_note, answers_pool, answers_store, calling, fed, with_pool as takes_pool, with_store as takes_store, HasReadAll}
+use Rattle.stx_base.specs.Notes.{pool_call_want, store_call_want, pool_note, store_note}
+use Rattle.stx_client.specs.View.{Playing as ClientView, script_of, answers_pool, answers_store, calling, fed, with_pool as takes_pool, with_store as takes_store, HasReadAll}
 use Rattle.stx_pool.specs.Pool.{Pool, with_entry as pool_with}
 use Rattle.stx_store.specs.Store.{Store, with_entry as store_with}
 use Rattle.stx_play.specs.Playing.{turns_of, client_so_far, IsReady, HasTurned}

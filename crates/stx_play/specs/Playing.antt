@@ -14,7 +14,8 @@ use Rattle.stx_model.specs.Reads.{ReadsAll}
 use Rattle.stx_model.specs.Played.{Turns, no_turns, turn, want_so_far, most_calls}
 use Rattle.stx_base.specs.declared.line.Line.{Line}
 use Rattle.stx_model.specs.Meanings.{state_of, stop_of}
-use Rattle.stx_client.specs.View.{Playing as ClientView, pool_note, store_note, script_of}
+use Rattle.stx_base.specs.Notes.{pool_note, store_note}
+use Rattle.stx_client.specs.View.{Playing as ClientView, script_of}
 use Rattle.stx_pool.specs.Pool.{Pool}
 use Rattle.stx_store.specs.Store.{Store}
 

@@ -4,7 +4,7 @@ ghost use Rattle.stx_base.specs.Histories.{pool_notes_of, store_notes_of};
 ghost use Rattle.stx_base.specs.Pools.{pool_proper};
 ghost use Rattle.stx_base.specs.Stores.{store_proper};
 ghost use Rattle.stx_base.specs.declared.call.Reply.{Reply};
-ghost use Rattle.stx_client.specs.View.{pool_call_want, store_call_want, is_reply_to};
+ghost use Rattle.stx_base.specs.Notes.{pool_call_want, store_call_want, is_reply_to};
 ghost use Rattle.stx_pool.specs.Pool.{Replies as PoolReplies};
 ghost use Rattle.stx_store.specs.Store.{Replies as StoreReplies};
 ghost use Rattle.stx_play.specs.Playing.{pool_note_made, store_note_made};

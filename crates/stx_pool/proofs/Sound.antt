@@ -6,12 +6,13 @@ use Rattle.std.proofs.lemmas.List.Quantifiers.{position-Some}
 use Rattle.stx_base.specs.declared.call.Want.{Want}
 use Rattle.stx_base.specs.declared.history.PoolNote.{PoolNote}
 use Rattle.stx_base.specs.declared.history.PoolEntry.{PoolEntry}
+use Rattle.stx_base.specs.Limits.{most_clients}
 use Rattle.stx_base.specs.Histories.{pool_notes, pool_notes_of}
 use Rattle.stx_base.specs.Pools.{contains, without, out, first_free, taken_or_empty, pool_reply, pool_proper}
 use Rattle.stx_base.specs.Legal.{PoolFits, PoolLegal}
 use Rattle.stx_base.proofs.LegalLaws.{PoolLegal-push}
 use Rattle.stx_base.proofs.PoolLaws.{out-push, contains-without_same, contains-without_other, length-without, first_free-at, first_free-all, given_is_own, out_is_owned, length-out, none_free, some_free}
-use Rattle.stx_pool.specs.Pool.{IsSound}
+use Rattle.stx_pool.specs.Pool.{KeepsPool}
 
 -- ---- the first flag that isn't set
 
@@ -22,7 +23,7 @@ all_set (true ∷ flags) none (suc k) h = all_set flags (omega arith) k (omega a
 all_set (false ∷ flags) none k h = absurd (omega arith)
 
 -- the connections tell by their flags which of them is free first
-pub free_is_some : (flags : List Bool) (H : List PoolEntry) (capacity k : ℕ) → IsSound flags H capacity → position not flags ≡ Some k
+pub free_is_some : (flags : List Bool) (H : List PoolEntry) (capacity k : ℕ) → KeepsPool flags H capacity → position not flags ≡ Some k
     → first_free (length flags) 1 (out (pool_notes H)) ≡ Some (k + 1)
 free_is_some flags H capacity k sound found =
     let at = position-Some not flags k false found in
@@ -35,7 +36,7 @@ free_is_some flags H capacity k sound found =
     ∙ sym (sound.tells (n - 1) (omega (arith, at.0)))
     ∙ not-false (get_or flags (n - 1) false) (at.2 (n - 1) place))
 
-pub free_is_none : (flags : List Bool) (H : List PoolEntry) (capacity : ℕ) → IsSound flags H capacity → position not flags ≡ None
+pub free_is_none : (flags : List Bool) (H : List PoolEntry) (capacity : ℕ) → KeepsPool flags H capacity → position not flags ≡ None
     → first_free (length flags) 1 (out (pool_notes H)) ≡ None
 free_is_none flags H capacity sound none =
     let past : length flags ≤ position_or_len not flags = elim (cases_lt (position_or_len not flags) (length flags)) [
@@ -50,12 +51,12 @@ free_is_none flags H capacity sound none =
 
 -- ---- a take
 
-pub take_replies : (flags : List Bool) (H : List PoolEntry) (capacity k : ℕ) → IsSound flags H capacity → position not flags ≡ Some k
+pub take_replies : (flags : List Bool) (H : List PoolEntry) (capacity k : ℕ) → KeepsPool flags H capacity → position not flags ≡ Some k
     → pool_reply (length flags) H Want.Take ≡ Some (PoolNote.Taken (k + 1))
 unfolding pool_reply
 take_replies flags H capacity k sound found = ap (λ o. Some (taken_or_empty o)) (free_is_some flags H capacity k sound found)
 
-pub take_replies_empty : (flags : List Bool) (H : List PoolEntry) (capacity : ℕ) → IsSound flags H capacity → position not flags ≡ None
+pub take_replies_empty : (flags : List Bool) (H : List PoolEntry) (capacity : ℕ) → KeepsPool flags H capacity → position not flags ≡ None
     → pool_reply (length flags) H Want.Take ≡ Some PoolNote.Empty
 unfolding pool_reply
 take_replies_empty flags H capacity sound none = ap (λ o. Some (taken_or_empty o)) (free_is_none flags H capacity sound none)
@@ -64,21 +65,21 @@ abbrev pub by : ℕ → PoolNote → PoolEntry
 by client note = record { client = client; note = note }
 
 -- a flag is set, and a connection taken
-pub sound_take : (flags : List Bool) (H H' : List PoolEntry) (capacity capacity' client k : ℕ) → IsSound flags H capacity
-    → client < 64 → IsTrue (pool_proper (pool_notes_of H client) Want.Take) → position not flags ≡ Some k
+pub sound_take : (flags : List Bool) (H H' : List PoolEntry) (capacity capacity' client k : ℕ) → KeepsPool flags H capacity
+    → client < most_clients → IsTrue (pool_proper (pool_notes_of H client) Want.Take) → position not flags ≡ Some k
     → H' ≡ H ++ by client (PoolNote.Taken (k + 1)) ∷ [] → length H + (length flags + 1) ≤ capacity'
-    → IsSound (set flags k true) H' capacity'
+    → KeepsPool (set flags k true) H' capacity'
 sound_take flags H H' capacity capacity' client k sound low proper found grown room =
     let e : PoolEntry = by client (PoolNote.Taken (k + 1)) in
-    let fits : PoolFits 64 (length flags) H e = record { client = low; proper = proper; reply = take_replies flags H capacity k sound found } in
-    let legal : PoolLegal 64 (length flags) (H ++ e ∷ []) = PoolLegal-push 64 (length flags) H e sound.legal fits in
+    let fits : PoolFits most_clients (length flags) H e = record { client = low; proper = proper; reply = take_replies flags H capacity k sound found } in
+    let legal : PoolLegal most_clients (length flags) (H ++ e ∷ []) = PoolLegal-push 64 (length flags) H e sound.legal fits in
     let within : k < length flags = (position-Some not flags k false found).0 in
     let long : length (set flags k true) ≡ length flags = length-set flags k true in
     let outs : out (pool_notes (H ++ e ∷ [])) ≡ (k + 1) ∷ out (pool_notes H) = out-push H e in
     let one_in : length (out (pool_notes H)) < length flags = some_free 64 (length flags) (k + 1) H sound.legal (free_is_some flags H capacity k sound found) in
-    subst (λ es. IsSound (set flags k true) es capacity') (sym grown) (record {
+    subst (λ es. KeepsPool (set flags k true) es capacity') (sym grown) (record {
       few = omega (arith, sound.few);
-      legal = subst (λ n. PoolLegal 64 n (H ++ e ∷ [])) (sym long) legal;
+      legal = subst (λ n. PoolLegal most_clients n (H ++ e ∷ [])) (sym long) legal;
       tells = λ j h. elim (cases_eq j k) [
         | inl is ↦
             ap (λ i. get_or (set flags k true) i false) is ∙ get_or-set_same flags k true false within
@@ -93,16 +94,16 @@ sound_take flags H H' capacity capacity' client k sound low proper found grown r
     })
 
 -- every connection is out
-pub sound_empty : (flags : List Bool) (H H' : List PoolEntry) (capacity capacity' client : ℕ) → IsSound flags H capacity
-    → client < 64 → IsTrue (pool_proper (pool_notes_of H client) Want.Take) → position not flags ≡ None
+pub sound_empty : (flags : List Bool) (H H' : List PoolEntry) (capacity capacity' client : ℕ) → KeepsPool flags H capacity
+    → client < most_clients → IsTrue (pool_proper (pool_notes_of H client) Want.Take) → position not flags ≡ None
     → H' ≡ H ++ by client PoolNote.Empty ∷ [] → length H + (length flags + 1) ≤ capacity'
-    → IsSound flags H' capacity'
+    → KeepsPool flags H' capacity'
 sound_empty flags H H' capacity capacity' client sound low proper none grown room =
     let e : PoolEntry = by client PoolNote.Empty in
-    let fits : PoolFits 64 (length flags) H e = record { client = low; proper = proper; reply = take_replies_empty flags H capacity sound none } in
+    let fits : PoolFits most_clients (length flags) H e = record { client = low; proper = proper; reply = take_replies_empty flags H capacity sound none } in
     let outs : out (pool_notes (H ++ e ∷ [])) ≡ out (pool_notes H) = out-push H e in
     let few_out : length (out (pool_notes H)) ≤ length flags = length-out 64 (length flags) H sound.legal in
-    subst (λ es. IsSound flags es capacity') (sym grown) (record {
+    subst (λ es. KeepsPool flags es capacity') (sym grown) (record {
       few = sound.few;
       legal = PoolLegal-push 64 (length flags) H e sound.legal fits;
       tells = λ j h. sound.tells j h ∙ ap (λ ns. contains ns (j + 1)) (sym outs);
@@ -112,7 +113,7 @@ sound_empty flags H H' capacity capacity' client sound low proper none grown roo
 -- ---- a give
 
 -- what a client gives is out, and one of the pool's connections
-pub given_is_out : (flags : List Bool) (H : List PoolEntry) (capacity client n : ℕ) → IsSound flags H capacity
+pub given_is_out : (flags : List Bool) (H : List PoolEntry) (capacity client n : ℕ) → KeepsPool flags H capacity
     → IsTrue (pool_proper (pool_notes_of H client) (Want.Give n))
     → (contains (out (pool_notes H)) n ≡ true) × (1 ≤ n) × (n ≤ length flags)
 given_is_out flags H capacity client n sound proper =
@@ -122,7 +123,7 @@ given_is_out flags H capacity client n sound proper =
     (there, within.0, within.1)
 
 -- one connection less is out
-pub given_leaves : (flags : List Bool) (H : List PoolEntry) (capacity client n : ℕ) → IsSound flags H capacity
+pub given_leaves : (flags : List Bool) (H : List PoolEntry) (capacity client n : ℕ) → KeepsPool flags H capacity
     → IsTrue (pool_proper (pool_notes_of H client) (Want.Give n))
     → length (out (pool_notes H)) ≡ suc (length (without (out (pool_notes H)) n))
 given_leaves flags H capacity client n sound proper =
@@ -132,22 +133,22 @@ pub give_replies : (size : ℕ) (H : List PoolEntry) (n : ℕ) → pool_reply si
 unfolding pool_reply
 give_replies size H n = refl
 
-pub sound_give : (flags : List Bool) (H H' : List PoolEntry) (capacity client n : ℕ) → IsSound flags H capacity
-    → client < 64 → IsTrue (pool_proper (pool_notes_of H client) (Want.Give n))
+pub sound_give : (flags : List Bool) (H H' : List PoolEntry) (capacity client n : ℕ) → KeepsPool flags H capacity
+    → client < most_clients → IsTrue (pool_proper (pool_notes_of H client) (Want.Give n))
     → H' ≡ H ++ by client (PoolNote.Given n) ∷ []
-    → IsSound (set flags (n - 1) false) H' capacity
+    → KeepsPool (set flags (n - 1) false) H' capacity
 sound_give flags H H' capacity client n sound low proper grown =
     let e : PoolEntry = by client (PoolNote.Given n) in
-    let fits : PoolFits 64 (length flags) H e = record { client = low; proper = proper; reply = give_replies (length flags) H n } in
-    let legal : PoolLegal 64 (length flags) (H ++ e ∷ []) = PoolLegal-push 64 (length flags) H e sound.legal fits in
+    let fits : PoolFits most_clients (length flags) H e = record { client = low; proper = proper; reply = give_replies (length flags) H n } in
+    let legal : PoolLegal most_clients (length flags) (H ++ e ∷ []) = PoolLegal-push 64 (length flags) H e sound.legal fits in
     let given = given_is_out flags H capacity client n sound proper in
     let first : 1 ≤ n = given.1 in
     let last : n ≤ length flags = given.2 in
     let long : length (set flags (n - 1) false) ≡ length flags = length-set flags (n - 1) false in
     let outs : out (pool_notes (H ++ e ∷ [])) ≡ without (out (pool_notes H)) n = out-push H e in
-    subst (λ es. IsSound (set flags (n - 1) false) es capacity) (sym grown) (record {
+    subst (λ es. KeepsPool (set flags (n - 1) false) es capacity) (sym grown) (record {
       few = omega (arith, sound.few);
-      legal = subst (λ m. PoolLegal 64 m (H ++ e ∷ [])) (sym long) legal;
+      legal = subst (λ m. PoolLegal most_clients m (H ++ e ∷ [])) (sym long) legal;
       tells = λ j h. elim (cases_eq j (n - 1)) [
         | inl is ↦
             let same : j + 1 ≡ n = omega arith in
@@ -165,10 +166,10 @@ sound_give flags H H' capacity client n sound low proper grown =
 
 -- ---- none is free exactly where all are out
 
-pub some_is_in : (flags : List Bool) (H : List PoolEntry) (capacity k : ℕ) → IsSound flags H capacity → position not flags ≡ Some k
+pub some_is_in : (flags : List Bool) (H : List PoolEntry) (capacity k : ℕ) → KeepsPool flags H capacity → position not flags ≡ Some k
     → length (out (pool_notes H)) < length flags
 some_is_in flags H capacity k sound found = some_free 64 (length flags) (k + 1) H sound.legal (free_is_some flags H capacity k sound found)
 
-pub none_is_in : (flags : List Bool) (H : List PoolEntry) (capacity : ℕ) → IsSound flags H capacity → position not flags ≡ None
+pub none_is_in : (flags : List Bool) (H : List PoolEntry) (capacity : ℕ) → KeepsPool flags H capacity → position not flags ≡ None
     → length (out (pool_notes H)) ≡ length flags
 none_is_in flags H capacity sound none = none_free 64 (length flags) H sound.legal (free_is_none flags H capacity sound none)

@@ -1,8 +1,9 @@
 // The pool itself: its history, and which connections are out.
 ghost use Rattle.std.specs.Prelude.{◌≡◌, ◌≤◌, ◌<◌, ◌↔◌, length, not, position, IfOk, OnErr, IsTrue, IsNone};
+ghost use Rattle.stx_base.specs.Limits.{most_clients, most_connections};
 ghost use Rattle.stx_base.specs.Histories.{pool_notes, pool_notes_of};
 ghost use Rattle.stx_base.specs.Pools.{out, pool_proper, taken_or_empty};
-ghost use Rattle.stx_pool.specs.Pool.{Replies, unused};
+ghost use Rattle.stx_pool.specs.Pool.{PoolReplies, new_pool};
 
 use std::alloc::Global;
 use std::marker::Model;
@@ -19,21 +20,21 @@ pub struct PoolCore {
 
 impl Model for PoolCore {
     ghost use Rattle.std.specs.Prelude.{length, vec_capacity};
-    ghost use Rattle.stx_pool.specs.Pool.{Pool, IsSound};
+    ghost use Rattle.stx_pool.specs.Pool.{Pool, KeepsPool};
 
     ghost Value = { Pool };
 
     ghost view = { λ p. record { size = length p.is_out.items; entries = p.entries.items } };
 
-    ghost invariant = { λ p. IsSound p.is_out.items p.entries.items (vec_capacity p.entries) };
+    ghost invariant = { λ p. KeepsPool p.is_out.items p.entries.items (vec_capacity p.entries) };
 }
 
 impl PoolCore {
     /// A pool of the connections 1 to `size`, all in, with an empty history.
     pub fn new(alloc: Global, size: u32) -> Result<PoolCore, NoMemory>
         requires least { 1 ≤ size }
-        requires most { size ≤ 64 }
-        ensures { IfOk result (λ pool. pool ≡ unused size) }
+        requires most { size ≤ most_connections }
+        ensures { IfOk result (λ pool. pool ≡ new_pool size) }
     {
         Ok(PoolCore {
             entries: Vec::new(alloc),
@@ -44,9 +45,9 @@ impl PoolCore {
     /// Takes the least connection that is in, for a client; `None` where every connection is out. The history keeps
     /// either answer. For want of memory the pool stays as it was.
     pub fn take(&mut self, _alloc: Global, client: u32) -> Result<Option<Connection>, NoMemory>
-        requires client { client < 64 }
+        requires client { client < most_clients }
         requires proper { IsTrue (pool_proper (pool_notes_of self.old.entries client) Want.Take) }
-        ensures ok { IfOk result (λ connection. Replies self.old self.new client Want.Take (taken_or_empty connection)) }
+        ensures ok { IfOk result (λ connection. PoolReplies self.old self.new client Want.Take (taken_or_empty connection)) }
         ensures empty { IfOk result (λ connection. IsNone connection ↔ (length (out (pool_notes self.old.entries)) ≡ self.old.size)) }
         ensures err { OnErr result (self.new ≡ self.old) }
     {
@@ -74,9 +75,9 @@ impl PoolCore {
 
     /// Gives a client's connection back. It takes no memory, since the take has kept room for it.
     pub fn give(&mut self, client: u32, connection: Connection)
-        requires client { client < 64 }
+        requires client { client < most_clients }
         requires proper { IsTrue (pool_proper (pool_notes_of self.old.entries client) (Want.Give connection)) }
-        ensures { Replies self.old self.new client (Want.Give connection) (PoolNote.Given connection) }
+        ensures { PoolReplies self.old self.new client (Want.Give connection) (PoolNote.Given connection) }
     {
         let number = connection.number();
         connection.retire();

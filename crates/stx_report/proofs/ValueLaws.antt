@@ -15,6 +15,7 @@ use Rattle.stx_base.specs.declared.history.StoreEntry.{StoreEntry}
 use Rattle.stx_base.specs.Alone.{RowMap, first_rows, applied, after}
 use Rattle.stx_base.specs.Histories.{store_notes}
 use Rattle.stx_base.specs.Stores.{is_busy, work, committed_note, committed_by, after_all}
+use Rattle.stx_base.proofs.RowLaws.{rows_so_far, rows_so_far-more}
 use Rattle.stx_report.specs.Kept.{Kept, kept_of}
 use Rattle.stx_report.specs.RowValues.{values_from, written, all_written, committed_values}
 use Rattle.stx_report.proofs.KeptLaws.{after-kept}
@@ -84,10 +85,6 @@ module _ (kept : ℕ → Kept) (notes : List StoreNote) (are : (t : ℕ) → kep
   values-committed c (StoreNote.Release t) rows = refl
   values-committed c (StoreNote.Rollback t) rows = refl
 
--- the rows after the commits in a part of a history
-abbrev pub rows_so_far : List ℤ → List StoreNote → List StoreEntry → RowMap
-rows_so_far values notes part = after_all (first_rows values) (filter_map (committed_by notes) part)
-
 -- one more entry
 pub values-more : (kept : ℕ → Kept) (values : List ℤ) (H : List StoreEntry) (names : List (List ℕ)) (i : ℕ) (d : StoreEntry)
     → ((t : ℕ) → kept t ≡ kept_of (work (store_notes H) t)) → i < length H
@@ -95,29 +92,10 @@ pub values-more : (kept : ℕ → Kept) (values : List ℤ) (H : List StoreEntry
     ≡ committed_values kept (values_from (rows_so_far values (store_notes H) (take i H)) 0 names) (get_or H i d).note
 values-more kept values H names i d are within =
     let notes = store_notes H in
-    ap (λ part. values_from (rows_so_far values notes part) 0 names) (take_more H i d within)
-    ∙ ap (λ js. values_from (after_all (first_rows values) js) 0 names) (filter_map-append (committed_by notes) (take i H) (get_or H i d ∷ []))
-    ∙ ap (λ rows. values_from rows 0 names) (fold-append (λ m j. after m j.work) (first_rows values) (filter_map (committed_by notes) (take i H)) (filter_map (committed_by notes) (get_or H i d ∷ [])))
+    ap (λ rows. values_from rows 0 names) (rows_so_far-more values notes H i d within)
     ∙ values-committed kept notes are names (get_or H i d).client (get_or H i d).note (rows_so_far values notes (take i H))
 
 -- ---- the first values
-
-find_after : (n j : ℕ) (values : List ℤ) → find nat_cmp (n + j) (enumerate_from n values) ≡ slice_get values j
-find_after n j [] = refl
-find_after n zero (x ∷ xs) =
-    let here : eq_by_cmp nat_cmp (n + 0) n ≡ true = unsigned_tied (n + 0) n ∙ eq-eqb (n + 0) n (omega arith) in
-    ap (λ b. cond b (Some x) (find nat_cmp (n + 0) (enumerate_from (n + 1) xs))) here
-find_after n (suc j) (x ∷ xs) =
-    let elsewhere : eq_by_cmp nat_cmp (n + suc j) n ≡ false = unsigned_tied (n + suc j) n ∙ ne_eqb (n + suc j) n (λ e. omega arith) in
-    let moved : n + suc j ≡ (n + 1) + j = omega arith in
-    ap (λ b. cond b (Some x) (find nat_cmp (n + suc j) (enumerate_from (n + 1) xs))) elsewhere
-    ∙ ap (λ q. find nat_cmp q (enumerate_from (n + 1) xs)) moved
-    ∙ find_after (n + 1) j xs
-
-pub first_rows-at : (values : List ℤ) (k : ℕ) → get (first_rows values) k ≡ slice_get values k
-first_rows-at values k =
-    let here : k ≡ 0 + k = omega arith in
-    get-from_entries nat_cmp_total (enumerate_from 0 values) k ∙ ap (λ q. find nat_cmp q (enumerate_from 0 values)) here ∙ find_after 0 k values
 
 values-step : (rows : RowMap) (names : List (List ℕ)) (i : ℕ) → i < length names
     → values_from rows i (drop i names) ≡ get rows i ∷ values_from rows (i + 1) (drop (i + 1) names)

@@ -4,7 +4,7 @@ ghost use Rattle.std.specs.List.{list_any};
 ghost use Rattle.std.specs.Str.{bytes_eq};
 ghost use Rattle.stx_scenario.specs.BuiltIn.{built_in, constants, name_of, declaration};
 
-use crate::{ClassDecl, ClassNo, List, Name, NoMemory};
+use crate::{BUILT_IN_CLASSES, ClassDecl, ClassNo, List, Name, NoMemory};
 use std::alloc::Global;
 
 /// A built-in class: its name, and the class above it.
@@ -66,7 +66,7 @@ pub const CANNOT_ACQUIRE_LOCK_EXCEPTION: ClassNo = ClassNo(15);
 pub const CANNOT_GET_JDBC_CONNECTION_EXCEPTION: ClassNo = ClassNo(16);
 
 /// The built-in classes in the order of their numbers.
-static BUILT_IN: [BuiltIn; 17] = [
+static BUILT_IN: [BuiltIn; BUILT_IN_CLASSES] = [
     BuiltIn {
         name: "Throwable",
         parent: None,

@@ -1,18 +1,33 @@
 // Want of memory, the one error that no caller can foresee.
+ghost use Rattle.std.specs.Prelude.{◌+◌, ◌^◌, ◌≤◌};
+
 use std::alloc::{AllocError, AllocFailed};
 
-/// An allocation was refused. Whoever is given it finds its object as the call's contract says, mostly unchanged.
+/// A growth was refused. Whoever is given it finds its object as the call's contract says, mostly unchanged.
+///
+/// Its field is private, so that only a refusal makes one: std's, or that of a count that would not fit.
 #[derive(Clone, Copy, Debug, PartialEq, Eq)]
-pub struct NoMemory;
+pub struct NoMemory {
+    refused: (),
+}
+
+impl NoMemory {
+    /// So many items and so many more are too many to count.
+    pub fn uncountable(items: usize, more: usize) -> Self
+        requires { 2 ^ 64 ≤ items + more }
+    {
+        NoMemory { refused: () }
+    }
+}
 
 impl From<AllocError> for NoMemory {
     fn from(_: AllocError) -> Self {
-        NoMemory
+        NoMemory { refused: () }
     }
 }
 
 impl<T: Drop> From<AllocFailed<T>> for NoMemory {
     fn from(_: AllocFailed<T>) -> Self {
-        NoMemory
+        NoMemory { refused: () }
     }
 }

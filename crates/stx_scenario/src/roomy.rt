@@ -30,11 +30,12 @@ impl<T> Roomy<T> {
         }
     }
 
-    /// Makes room for so many items. For want of memory the list stays as it was.
+    /// Makes room for so many items. It fails only where there was less, and the list then stays as it was.
     pub fn reserve(&mut self, more: usize) -> Result<(), NoMemory>
         ensures items { self.new.items ≡ self.old.items }
         ensures room { OnOk result (more ≤ self.new.spare) }
         ensures kept { self.old.spare ≤ self.new.spare }
+        ensures full { OnErr result (self.old.spare < more) }
     {
         self.items.reserve(more)?;
         Ok(())

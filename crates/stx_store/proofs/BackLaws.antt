@@ -8,10 +8,11 @@ use Rattle.stx_base.specs.declared.history.Access.{Access}
 use Rattle.stx_base.specs.declared.history.StoreNote.{StoreNote}
 use Rattle.stx_base.specs.declared.history.StoreEntry.{StoreEntry}
 use Rattle.stx_base.specs.Histories.{store_notes}
-use Rattle.stx_base.specs.Stores.{work, works, is_busy, pointed, savepoints, gone_back, released}
+use Rattle.stx_base.specs.Alone.{innermost, without_innermost}
+use Rattle.stx_base.specs.Stores.{work, works, is_busy, pointed, savepoints, with_return}
 use Rattle.stx_base.proofs.HistoryLaws.{store_notes-push}
 use Rattle.stx_store.specs.declared.rows.Trace.{Trace}
-use Rattle.stx_store.specs.Cells.{Cell, cell_applied, last_copied, rest_copied, cell_stepped, cell_worked, cell_after, written, value_or_level, back_at_access, back_at_return, back_at_release, back}
+use Rattle.stx_store.specs.Cells.{Cell, cell_applied, cell_stepped, cell_worked, cell_after, written, value_or_level, back_at_access, back_at_return, back_at_release, back}
 
 -- the value and its copies, the innermost first
 abbrev pub stack : Cell → List (Option ℤ)
@@ -48,12 +49,12 @@ tells_point : (level : ℕ) (value : Option ℤ) (copies : List (Option ℤ)) �
 tells_point zero value copies = refl
 tells_point (suc level) value copies = let same : level ≡ suc level - 1 = omega arith in ap (slice_get (value ∷ copies)) same
 
-tells_return : (level : ℕ) (value : Option ℤ) (copies : List (Option ℤ)) → slice_get (last_copied value copies ∷ copies) level ≡ slice_get (value ∷ copies) (back_at_return level (length copies))
+tells_return : (level : ℕ) (value : Option ℤ) (copies : List (Option ℤ)) → slice_get (innermost value copies ∷ copies) level ≡ slice_get (value ∷ copies) (back_at_return level (length copies))
 tells_return zero value [] = refl
 tells_return zero value (copy ∷ copies) = refl
 tells_return (suc level) value copies = refl
 
-tells_release : (level : ℕ) (value : Option ℤ) (copies : List (Option ℤ)) → slice_get (value ∷ rest_copied copies) level ≡ slice_get (value ∷ copies) (back_at_release level)
+tells_release : (level : ℕ) (value : Option ℤ) (copies : List (Option ℤ)) → slice_get (value ∷ without_innermost copies) level ≡ slice_get (value ∷ copies) (back_at_release level)
 tells_release zero value copies = refl
 tells_release (suc level) value [] = let same : suc (suc level) ≡ level + 2 = omega arith in ap (slice_get (value ∷ [])) same
 tells_release (suc level) value (copy ∷ copies) = let same : suc (suc level) ≡ level + 2 = omega arith in ap (slice_get (value ∷ copy ∷ copies)) same
@@ -96,11 +97,11 @@ length_if : (b : Bool) (ps qs : List Bool) (c d : Cell) → length ps ≡ length
 length_if true ps qs c d h g = h
 length_if false ps qs c d h g = g
 
-length_gone_back : (ps : List Bool) → length (gone_back ps) ≡ length ps
+length_gone_back : (ps : List Bool) → length (with_return ps) ≡ length ps
 length_gone_back [] = refl
 length_gone_back (p ∷ ps) = refl
 
-length_released : (ps : List Bool) (copies : List (Option ℤ)) → length ps ≡ length copies → length (released ps) ≡ length (rest_copied copies)
+length_released : (ps : List Bool) (copies : List (Option ℤ)) → length ps ≡ length copies → length (without_innermost ps) ≡ length (without_innermost copies)
 length_released [] [] h = refl
 length_released [] (c ∷ copies) h = absurd (omega arith)
 length_released (p ∷ ps) [] h = absurd (omega arith)
@@ -113,8 +114,8 @@ length_same false ps c d h g = g
 length-pointed : (t k : ℕ) (ps : List Bool) (c : Cell) (n : StoreNote) → length ps ≡ length c.copies → length (pointed t ps n) ≡ length (worked_one t k c n).copies
 length-pointed t k ps c (StoreNote.Access u a r) h = length_same (u == t && not (is_busy r)) ps (cell_stepped k c (StoreNote.Access u a r)) c h h
 length-pointed t k ps c (StoreNote.Point u) h = length_if (u == t) (false ∷ ps) ps (cell_stepped k c (StoreNote.Point u)) c (ap suc h) h
-length-pointed t k ps c (StoreNote.BackTo u) h = length_if (u == t) (gone_back ps) ps (cell_stepped k c (StoreNote.BackTo u)) c (length_gone_back ps ∙ h) h
-length-pointed t k ps c (StoreNote.Release u) h = length_if (u == t) (released ps) ps (cell_stepped k c (StoreNote.Release u)) c (length_released ps c.copies h) h
+length-pointed t k ps c (StoreNote.BackTo u) h = length_if (u == t) (with_return ps) ps (cell_stepped k c (StoreNote.BackTo u)) c (length_gone_back ps ∙ h) h
+length-pointed t k ps c (StoreNote.Release u) h = length_if (u == t) (without_innermost ps) ps (cell_stepped k c (StoreNote.Release u)) c (length_released ps c.copies h) h
 length-pointed t k ps c (StoreNote.Begin u) h = h
 length-pointed t k ps c (StoreNote.Commit u m) h = h
 length-pointed t k ps c (StoreNote.Rollback u) h = h

@@ -1,16 +1,18 @@
 -- What the store owes grows and shrinks with each entry.
-use Rattle.std.proofs.Common.{IsTrue, ℤ, ◌≡◌, ◌≢◌, ℕ, suc, ◌+◌, ◌<◌, ◌≤◌, Bool, true, false, not, ◌&&◌, ◌||◌, cond, List, [], ◌∷◌, ◌++◌, length, refl, sym, ap, ◌∙◌, subst, Some, arith, eq-eqb, ne_eqb, eqb-true}
+use Rattle.std.proofs.Common.{IsTrue, ◌≡◌, ◌≢◌, ℕ, suc, ◌+◌, ◌<◌, ◌≤◌, Bool, true, false, not, ◌&&◌, ◌||◌, cond, List, [], ◌∷◌, ◌++◌, length, refl, sym, ap, ◌∙◌, subst, Some, arith, eq-eqb, ne_eqb, eqb-true}
 use Rattle.std.specs.List.{list_any}
 use Rattle.std.proofs.lemmas.Bool.{false≢true, and_parts}
+use Rattle.stx_base.specs.declared.facts.StoreFacts.{StoreFacts}
 use Rattle.stx_base.specs.declared.history.StoreNote.{StoreNote}
 use Rattle.stx_base.specs.declared.history.StoreEntry.{StoreEntry}
 use Rattle.stx_base.specs.Histories.{store_notes, store_notes_of, has_room}
 use Rattle.stx_base.specs.Pools.{contains}
-use Rattle.stx_base.specs.Stores.{store_reply, store_want, store_proper, begun, ends, is_live, pointed, savepoints, gone_back, released, can_go_back, is_pointed}
+use Rattle.stx_base.specs.Alone.{without_innermost}
+use Rattle.stx_base.specs.Stores.{store_reply, store_want, store_proper, begun, ends, is_live, pointed, savepoints, with_return, can_go_back, is_pointed}
 use Rattle.stx_base.specs.Legal.{StoreFits}
-use Rattle.stx_base.proofs.HistoryLaws.{or-false, total, total-same, total-at, is_live-parts, is_live-push, savepoints-push, store_notes_of-push, store_notes_of-push_other, none_of}
+use Rattle.stx_base.proofs.HistoryLaws.{or-false, sum_below, sum_below-same, sum_below-at, is_live-parts, is_live-push, savepoints-push, store_notes_of-push, store_notes_of-push_other, none_of}
 use Rattle.stx_base.proofs.StoreLaws.{names, lives, begin_number, begun_length-push, is_live_none, is_live-push_other, savepoints_none, savepoints-push_other, Unnamed, live_below}
-use Rattle.stx_store.specs.Owed.{added, was_owed, costs, due, owed_to}
+use Rattle.stx_store.specs.Owed.{more_owed, was_owed, costs, due, owed_to}
 
 abbrev pub entry : ℕ → StoreNote → StoreEntry
 entry client note = record { client = client; note = note }
@@ -91,12 +93,12 @@ due_point own t =
     two_more true cost now is = omega arith
     two_more false cost now is = omega arith
 
-less_back : (ps : List Bool) → can_go_back ps ≡ true → costs (gone_back ps) + 1 ≤ costs ps
+less_back : (ps : List Bool) → can_go_back ps ≡ true → costs (with_return ps) + 1 ≤ costs ps
 less_back [] h = absurd (false≢true h)
 less_back (true ∷ ps) h = absurd (false≢true h)
 less_back (false ∷ ps) h = omega arith
 
-less_released : (ps : List Bool) → is_pointed ps ≡ true → costs (released ps) + 1 ≤ costs ps
+less_released : (ps : List Bool) → is_pointed ps ≡ true → costs (without_innermost ps) + 1 ≤ costs ps
 less_released [] h = absurd (false≢true h)
 less_released (true ∷ ps) h = omega arith
 less_released (false ∷ ps) h = omega arith
@@ -111,13 +113,13 @@ due_less own n t ps none still lives is less =
 
 due_back : (own : List StoreNote) (t : ℕ) → is_live own t ≡ true → can_go_back (savepoints own t) ≡ true → due (own ++ StoreNote.BackTo t ∷ []) t + 1 ≤ due own t
 due_back own t lives can =
-    due_less own (StoreNote.BackTo t) t (gone_back (savepoints own t)) refl refl lives
-    (ap (λ b. cond b (gone_back (savepoints own t)) (savepoints own t)) (eq-eqb t t refl)) (less_back (savepoints own t) can)
+    due_less own (StoreNote.BackTo t) t (with_return (savepoints own t)) refl refl lives
+    (ap (λ b. cond b (with_return (savepoints own t)) (savepoints own t)) (eq-eqb t t refl)) (less_back (savepoints own t) can)
 
 due_release : (own : List StoreNote) (t : ℕ) → is_live own t ≡ true → is_pointed (savepoints own t) ≡ true → due (own ++ StoreNote.Release t ∷ []) t + 1 ≤ due own t
 due_release own t lives is =
-    due_less own (StoreNote.Release t) t (released (savepoints own t)) refl refl lives
-    (ap (λ b. cond b (released (savepoints own t)) (savepoints own t)) (eq-eqb t t refl)) (less_released (savepoints own t) is)
+    due_less own (StoreNote.Release t) t (without_innermost (savepoints own t)) refl refl lives
+    (ap (λ b. cond b (without_innermost (savepoints own t)) (savepoints own t)) (eq-eqb t t refl)) (less_released (savepoints own t) is)
 
 -- ---- all clients
 
@@ -128,15 +130,15 @@ owed-step clients H c t n below none low only =
     let own = store_notes_of H c in
     let count = length (begun (store_notes H)) in
     let grown : length (begun (store_notes (H ++ entry c n ∷ []))) ≡ count = begun_length-push H (entry c n) ∙ (let same : count + length (begun (n ∷ [])) ≡ count = omega (arith, ap length none) in same) in
-    let f : ℕ → ℕ = λ d. total (suc count) (due (store_notes_of H d)) in
-    let g : ℕ → ℕ = λ d. total (suc count) (due (store_notes_of (H ++ entry c n ∷ []) d)) in
-    let here : g c ≡ total (suc count) (due (own ++ n ∷ [])) = ap (λ ns. total (suc count) (due ns)) (store_notes_of-push H (entry c n) c refl) in
-    let others : (d : ℕ) → d ≢ c → g d ≡ f d = λ d differs. ap (λ ns. total (suc count) (due ns)) (store_notes_of-push_other H (entry c n) d (λ e. differs (sym e))) in
-    let inner : total (suc count) (due (own ++ n ∷ [])) + due own t ≡ f c + due (own ++ n ∷ []) t =
-    total-at (suc count) (due own) (due (own ++ n ∷ [])) t (omega arith) (λ u differs. due-other own n u (only u differs)) in
-    let outer : total clients g + f c ≡ total clients f + g c = total-at clients f g c below others in
-    let all : owed_to clients (H ++ entry c n ∷ []) ≡ total clients g = ap (λ m. total clients (λ d. total (suc m) (due (store_notes_of (H ++ entry c n ∷ []) d)))) grown in
-    sum_step (owed_to clients (H ++ entry c n ∷ [])) (total clients g) (total clients f) (f c) (g c) (due own t) (due (own ++ n ∷ []) t) all outer (ap (λ m. m + due own t) here ∙ inner)
+    let f : ℕ → ℕ = λ d. sum_below (suc count) (due (store_notes_of H d)) in
+    let g : ℕ → ℕ = λ d. sum_below (suc count) (due (store_notes_of (H ++ entry c n ∷ []) d)) in
+    let here : g c ≡ sum_below (suc count) (due (own ++ n ∷ [])) = ap (λ ns. sum_below (suc count) (due ns)) (store_notes_of-push H (entry c n) c refl) in
+    let others : (d : ℕ) → d ≢ c → g d ≡ f d = λ d differs. ap (λ ns. sum_below (suc count) (due ns)) (store_notes_of-push_other H (entry c n) d (λ e. differs (sym e))) in
+    let inner : sum_below (suc count) (due (own ++ n ∷ [])) + due own t ≡ f c + due (own ++ n ∷ []) t =
+    sum_below-at (suc count) (due own) (due (own ++ n ∷ [])) t (omega arith) (λ u differs. due-other own n u (only u differs)) in
+    let outer : sum_below clients g + f c ≡ sum_below clients f + g c = sum_below-at clients f g c below others in
+    let all : owed_to clients (H ++ entry c n ∷ []) ≡ sum_below clients g = ap (λ m. sum_below clients (λ d. sum_below (suc m) (due (store_notes_of (H ++ entry c n ∷ []) d)))) grown in
+    sum_step (owed_to clients (H ++ entry c n ∷ [])) (sum_below clients g) (sum_below clients f) (f c) (g c) (due own t) (due (own ++ n ∷ []) t) all outer (ap (λ m. m + due own t) here ∙ inner)
   where
     sum_step : (new sum before fc gc d d' : ℕ) → new ≡ sum → sum + fc ≡ before + gc → gc + d ≡ fc + d' → new + d ≡ before + d'
     sum_step new sum before fc gc d d' e o i = omega arith
@@ -150,18 +152,18 @@ owed-begin clients H c u below fresh is =
     let grown : length (begun (store_notes (H ++ entry c n ∷ []))) ≡ suc count = (let more : length (begun (store_notes (H ++ entry c n ∷ []))) ≡ suc count = omega (arith, begun_length-push H (entry c n)) in more) in
     let number : u ≡ suc count = omega arith in
     let unnamed_in : (d : ℕ) → list_any (names u) (store_notes_of H d) ≡ false = λ d. none_of (names u) H d (fresh u (omega arith)) in
-    let f : ℕ → ℕ = λ d. total (suc count) (due (store_notes_of H d)) in
-    let g : ℕ → ℕ = λ d. total (suc (suc count)) (due (store_notes_of (H ++ entry c n ∷ []) d)) in
+    let f : ℕ → ℕ = λ d. sum_below (suc count) (due (store_notes_of H d)) in
+    let g : ℕ → ℕ = λ d. sum_below (suc (suc count)) (due (store_notes_of (H ++ entry c n ∷ []) d)) in
     let others : (d : ℕ) → d ≢ c → g d ≡ f d = λ d differs.
-    ap (λ ns. total (suc (suc count)) (due ns)) (store_notes_of-push_other H (entry c n) d (λ e. differs (sym e)))
+    ap (λ ns. sum_below (suc (suc count)) (due ns)) (store_notes_of-push_other H (entry c n) d (λ e. differs (sym e)))
     ∙ last_none (f d) (due (store_notes_of H d) (suc count)) (subst (λ m. due (store_notes_of H d) m ≡ 0) number (due_none (store_notes_of H d) u (unnamed_in d))) in
-    let here : g c ≡ total (suc count) (due (own ++ n ∷ [])) + due (own ++ n ∷ []) (suc count) = ap (λ ns. total (suc (suc count)) (due ns)) (store_notes_of-push H (entry c n) c refl) in
-    let before : total (suc count) (due (own ++ n ∷ [])) ≡ f c =
-    total-same (suc count) (due own) (due (own ++ n ∷ [])) (λ i low. due-other own n i (ne_eqb u i (λ e. omega arith))) in
+    let here : g c ≡ sum_below (suc count) (due (own ++ n ∷ [])) + due (own ++ n ∷ []) (suc count) = ap (λ ns. sum_below (suc (suc count)) (due ns)) (store_notes_of-push H (entry c n) c refl) in
+    let before : sum_below (suc count) (due (own ++ n ∷ [])) ≡ f c =
+    sum_below-same (suc count) (due own) (due (own ++ n ∷ [])) (λ i low. due-other own n i (ne_eqb u i (λ e. omega arith))) in
     let last : due (own ++ n ∷ []) (suc count) ≤ 1 = subst (λ m. due (own ++ n ∷ []) m ≤ 1) number (due_begun own u (unnamed_in c)) in
-    let outer : total clients g + f c ≡ total clients f + g c = total-at clients f g c below others in
-    let all : owed_to clients (H ++ entry c n ∷ []) ≡ total clients g = ap (λ m. total clients (λ d. total (suc m) (due (store_notes_of (H ++ entry c n ∷ []) d)))) grown in
-    sum_most (owed_to clients (H ++ entry c n ∷ [])) (total clients g) (total clients f) (f c) (g c) (total (suc count) (due (own ++ n ∷ []))) (due (own ++ n ∷ []) (suc count)) all outer here before last
+    let outer : sum_below clients g + f c ≡ sum_below clients f + g c = sum_below-at clients f g c below others in
+    let all : owed_to clients (H ++ entry c n ∷ []) ≡ sum_below clients g = ap (λ m. sum_below clients (λ d. sum_below (suc m) (due (store_notes_of (H ++ entry c n ∷ []) d)))) grown in
+    sum_most (owed_to clients (H ++ entry c n ∷ [])) (sum_below clients g) (sum_below clients f) (f c) (g c) (sum_below (suc count) (due (own ++ n ∷ []))) (due (own ++ n ∷ []) (suc count)) all outer here before last
   where
     last_none : (m last : ℕ) → last ≡ 0 → m + last ≡ m
     last_none m last is = omega arith
@@ -223,29 +225,29 @@ spent_at clients H c (StoreNote.Rollback t) fresh below proper owed =
 spent_at clients H c n fresh below proper owed = absurd (false≢true owed)
 
 -- an entry that was owed and fits takes one from what the store owes
-pub owed-spent : (clients : ℕ) (values : List ℤ) (H : List StoreEntry) (e : StoreEntry) → Unnamed H → StoreFits clients values H e → was_owed e.note ≡ true
+pub owed-spent : (clients : ℕ) (facts : StoreFacts) (H : List StoreEntry) (e : StoreEntry) → Unnamed H → StoreFits clients facts H e → was_owed e.note ≡ true
     → owed_to clients (H ++ e ∷ []) + 1 ≤ owed_to clients H
-owed-spent clients values H e fresh fits owed = spent_at clients H e.client e.note fresh fits.client fits.proper owed
+owed-spent clients facts H e fresh fits owed = spent_at clients H e.client e.note fresh fits.client fits.proper owed
 
-more_at : (clients : ℕ) (values : List ℤ) (H : List StoreEntry) (c : ℕ) (n : StoreNote) → Unnamed H → c < clients → IsTrue (store_proper (store_notes_of H c) (store_want n)) → store_reply values H (store_want n) ≡ Some n
-    → owed_to clients (H ++ entry c n ∷ []) ≤ owed_to clients H + added n
-more_at clients values H c (StoreNote.Begin u) fresh below proper reply = owed-begin clients H c u below fresh (begin_number values H u reply)
-more_at clients values H c (StoreNote.Access t a r) fresh below proper reply =
+more_at : (clients : ℕ) (facts : StoreFacts) (H : List StoreEntry) (c : ℕ) (n : StoreNote) → Unnamed H → c < clients → IsTrue (store_proper (store_notes_of H c) (store_want n)) → store_reply facts H (store_want n) ≡ Some n
+    → owed_to clients (H ++ entry c n ∷ []) ≤ owed_to clients H + more_owed n
+more_at clients facts H c (StoreNote.Begin u) fresh below proper reply = owed-begin clients H c u below fresh (begin_number facts H u reply)
+more_at clients facts H c (StoreNote.Access t a r) fresh below proper reply =
     let own = store_notes_of H c in
     let n = StoreNote.Access t a r in
     let alive = lives own t n (eq-eqb t t refl) refl proper in
     same_step _ _ (due own t) (due (own ++ n ∷ []) t) (stays clients H c t n below fresh alive (eq-eqb t t refl) refl) (due_kept own n t refl refl)
-more_at clients values H c (StoreNote.Point t) fresh below proper reply =
+more_at clients facts H c (StoreNote.Point t) fresh below proper reply =
     let own = store_notes_of H c in
     let n = StoreNote.Point t in
     let alive = lives own t n (eq-eqb t t refl) refl proper in
     more_step _ _ (due own t) (due (own ++ n ∷ []) t) (stays clients H c t n below fresh alive (eq-eqb t t refl) refl) (due_point own t)
-more_at clients values H c (StoreNote.Auto a r) fresh below proper reply =
+more_at clients facts H c (StoreNote.Auto a r) fresh below proper reply =
     let own = store_notes_of H c in
     let n = StoreNote.Auto a r in
     same_step _ _ (due own 0) (due (own ++ n ∷ []) 0) (owed-step clients H c 0 n below refl (omega arith) (λ u differs. refl)) (due-other own n 0 refl)
-more_at clients values H c n fresh below proper reply = spent_less _ _ (spent_at clients H c n fresh below proper refl)
+more_at clients facts H c n fresh below proper reply = spent_less _ _ (spent_at clients H c n fresh below proper refl)
 
 -- what an entry that fits makes the store owe more
-pub owed-more : (clients : ℕ) (values : List ℤ) (H : List StoreEntry) (e : StoreEntry) → Unnamed H → StoreFits clients values H e → owed_to clients (H ++ e ∷ []) ≤ owed_to clients H + added e.note
-owed-more clients values H e fresh fits = more_at clients values H e.client e.note fresh fits.client fits.proper fits.reply
+pub owed-more : (clients : ℕ) (facts : StoreFacts) (H : List StoreEntry) (e : StoreEntry) → Unnamed H → StoreFits clients facts H e → owed_to clients (H ++ e ∷ []) ≤ owed_to clients H + more_owed e.note
+owed-more clients facts H e fresh fits = more_at clients facts H e.client e.note fresh fits.client fits.proper fits.reply

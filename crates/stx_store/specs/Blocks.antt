@@ -14,12 +14,12 @@ blocks notes k caller t = not (list_any (ends t) notes) && (list_any (takes t k)
 abbrev pub blockers : List StoreNote → ℕ → Option ℕ → List StoreEntry → List ℕ
 blockers notes k caller part = filter (blocks notes k caller) (begun (store_notes part))
 
--- the less of this number and the one found before
-abbrev pub lesser : Option ℕ → ℕ → ℕ
-lesser None t = t
-lesser (Some u) t = min u t
+-- the smaller of this number and the one found before
+abbrev pub smaller : Option ℕ → ℕ → ℕ
+smaller None t = t
+smaller (Some u) t = min u t
 
 -- the least in the way after one note more
 abbrev pub found_with : List StoreNote → ℕ → Option ℕ → Option ℕ → StoreNote → Option ℕ
-found_with notes k caller found (StoreNote.Begin t) = if blocks notes k caller t then Some (lesser found t) else found
+found_with notes k caller found (StoreNote.Begin t) = if blocks notes k caller t then Some (smaller found t) else found
 found_with notes k caller found _ = found

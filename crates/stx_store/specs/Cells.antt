@@ -4,7 +4,7 @@ use Rattle.std.specs.List.{fold}
 use Rattle.stx_base.specs.declared.history.Access.{Access}
 use Rattle.stx_base.specs.declared.history.Answer.{Answer}
 use Rattle.stx_base.specs.declared.history.StoreNote.{StoreNote}
-use Rattle.stx_base.specs.Alone.{found_or_absent}
+use Rattle.stx_base.specs.Alone.{innermost, without_innermost, found_or_absent}
 use Rattle.stx_base.specs.Stores.{work, is_busy}
 use Rattle.stx_store.specs.declared.rows.Trace.{Trace}
 
@@ -19,23 +19,13 @@ cell_applied k value (Access.Read row) = value
 cell_applied k value (Access.Write row v) = if k == row.0 then Some v else value
 cell_applied k value (Access.Erase row) = if k == row.0 then None else value
 
--- the innermost copy, or the value where there is none
-abbrev pub last_copied : Option ℤ → List (Option ℤ) → Option ℤ
-last_copied value [] = value
-last_copied value (copy ∷ copies) = copy
-
--- the copies without the innermost
-abbrev pub rest_copied : List (Option ℤ) → List (Option ℤ)
-rest_copied [] = []
-rest_copied (copy ∷ copies) = copies
-
 -- what a note of a transaction's work makes of row k
 abbrev pub cell_stepped : ℕ → Cell → StoreNote → Cell
 cell_stepped k c (StoreNote.Access t a r) = record { value = cell_applied k c.value a; copies = c.copies }
 cell_stepped k c (StoreNote.Auto a r) = record { value = cell_applied k c.value a; copies = c.copies }
 cell_stepped k c (StoreNote.Point t) = record { value = c.value; copies = c.value ∷ c.copies }
-cell_stepped k c (StoreNote.BackTo t) = record { value = last_copied c.value c.copies; copies = c.copies }
-cell_stepped k c (StoreNote.Release t) = record { value = c.value; copies = rest_copied c.copies }
+cell_stepped k c (StoreNote.BackTo t) = record { value = innermost c.value c.copies; copies = c.copies }
+cell_stepped k c (StoreNote.Release t) = record { value = c.value; copies = without_innermost c.copies }
 cell_stepped k c (StoreNote.Begin t) = c
 cell_stepped k c (StoreNote.Commit t n) = c
 cell_stepped k c (StoreNote.Rollback t) = c

@@ -1,8 +1,10 @@
 -- How many entries the store owes to calls that can't fail: the ends of what has begun.
-use Rattle.std.specs.Prelude.{ℕ, suc, ℤ, ◌+◌, ◌≤◌, Bool, true, false, if◌then◌else◌, List, [], ◌∷◌, length}
+use Rattle.std.specs.Prelude.{ℕ, suc, ◌+◌, ◌≤◌, Bool, true, false, if◌then◌else◌, List, [], ◌∷◌, length}
+use Rattle.stx_base.specs.declared.facts.StoreFacts.{StoreFacts}
 use Rattle.stx_base.specs.declared.history.StoreNote.{StoreNote}
 use Rattle.stx_base.specs.declared.history.StoreEntry.{StoreEntry}
-use Rattle.stx_base.specs.Histories.{store_notes, store_notes_of, total}
+use Rattle.stx_base.specs.Limits.{most_clients}
+use Rattle.stx_base.specs.Histories.{store_notes, store_notes_of, sum_below}
 use Rattle.stx_base.specs.Stores.{begun, is_live, savepoints}
 use Rattle.stx_base.specs.Legal.{StoreLegal}
 
@@ -17,10 +19,10 @@ abbrev pub due : List StoreNote → ℕ → ℕ
 due own t = if is_live own t then costs (savepoints own t) + 1 else 0
 
 -- how many entries more a note makes the store owe at most: a savepoint its return and its release
-abbrev pub added : StoreNote → ℕ
-added (StoreNote.Begin t) = 1
-added (StoreNote.Point t) = 2
-added _ = 0
+abbrev pub more_owed : StoreNote → ℕ
+more_owed (StoreNote.Begin t) = 1
+more_owed (StoreNote.Point t) = 2
+more_owed _ = 0
 
 -- a note of a call that can't fail
 abbrev pub was_owed : StoreNote → Bool
@@ -32,14 +34,14 @@ was_owed _ = false
 
 -- what is due to the clients below a count, for the transactions up to the number that were begun
 abbrev pub owed_to : ℕ → List StoreEntry → ℕ
-owed_to clients history = total clients (λ c. total (suc (length (begun (store_notes history)))) (due (store_notes_of history c)))
+owed_to clients history = sum_below clients (λ c. sum_below (suc (length (begun (store_notes history)))) (due (store_notes_of history c)))
 
--- what is due to all 64 clients
+-- what is due to all clients
 unfoldable pub owed_all : List StoreEntry → ℕ
-owed_all history = owed_to 64 history
+owed_all history = owed_to most_clients history
 
--- the history is a legal one of 64 clients, and there is room for all that is owed
-pub record IsKept (values : List ℤ) (entries : List StoreEntry) (owed len capacity : ℕ) : Type 0 where
-  pub legal : StoreLegal 64 values entries
+-- the history is legal, and there is room for all that is owed
+pub record KeepsStore (facts : StoreFacts) (entries : List StoreEntry) (owed len capacity : ℕ) : Type 0 where
+  pub legal : StoreLegal most_clients facts entries
   pub owes : owed_all entries ≤ owed
   pub room : len + owed ≤ capacity

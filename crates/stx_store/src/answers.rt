@@ -6,36 +6,35 @@ ghost use Rattle.stx_store.specs.Cells.{found_at};
 
 use crate::locks::{blocker, row_named};
 use crate::rows::{row_after, value_after};
-use stx_base::{Access, Answer, StoreEntry};
-use stx_scenario::List;
+use stx_base::{Access, Answer, StoreEntry, StoreFacts};
 
 /// An access of a transaction sees the committed rows and the transaction's own work.
 pub(crate) fn access_answered(
-    values: &List<i64>,
+    facts: &StoreFacts,
     entries: &[StoreEntry],
     tx: u32,
     access: Access,
 ) -> Answer
-    ensures { result ≡ access_answer values.now entries.now tx access }
+    ensures { result ≡ access_answer facts.now entries.now tx access }
 {
     let row = row_named(access);
-    match blocker(entries, row, Some(tx)) {
+    match blocker(entries, access, Some(tx)) {
         Some(other) => Answer::Busy(other),
         None => answer_at(
             access,
-            value_after(entries, tx, row, row_after(values, entries, row)),
+            value_after(entries, tx, row, row_after(&facts.values, entries, row)),
         ),
     }
 }
 
 /// A statement outside a transaction sees the committed rows.
-pub(crate) fn auto_answered(values: &List<i64>, entries: &[StoreEntry], access: Access) -> Answer
-    ensures { result ≡ auto_answer values.now entries.now access }
+pub(crate) fn auto_answered(facts: &StoreFacts, entries: &[StoreEntry], access: Access) -> Answer
+    ensures { result ≡ auto_answer facts.now entries.now access }
 {
     let row = row_named(access);
-    match blocker(entries, row, None) {
+    match blocker(entries, access, None) {
         Some(other) => Answer::Busy(other),
-        None => answer_at(access, row_after(values, entries, row)),
+        None => answer_at(access, row_after(&facts.values, entries, row)),
     }
 }
 

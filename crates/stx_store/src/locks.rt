@@ -2,17 +2,19 @@
 ghost use Rattle.std.specs.Prelude.{◌≡◌};
 ghost use Rattle.std.specs.List.{list_any};
 ghost use Rattle.stx_base.specs.Histories.{store_notes};
-ghost use Rattle.stx_base.specs.Stores.{is_busy, ends, takes, least, conflicts};
+ghost use Rattle.stx_base.specs.Stores.{is_busy, ends, takes, smallest, conflicts};
+ghost use Rattle.stx_base.specs.declared.facts.StoreFacts.{StoreFacts};
 ghost use Rattle.stx_base.specs.Alone.{row_of};
-ghost use Rattle.stx_store.specs.Blocks.{blocks, lesser, found_with};
+ghost use Rattle.stx_store.specs.Blocks.{blocks, smaller, found_with};
 
 use stx_base::{Access, Answer, StoreEntry, StoreNote};
 use stx_scenario::RowNo;
 
-/// The least live transaction that holds the row and isn't the caller.
-pub(crate) fn blocker(entries: &[StoreEntry], row: RowNo, caller: Option<u32>) -> Option<u32>
-    ensures { result ≡ least (conflicts (store_notes entries.now) row.0 caller) }
+/// The least live transaction that keeps the caller's access from its row: one that holds it and isn't the caller.
+pub(crate) fn blocker(entries: &[StoreEntry], access: Access, caller: Option<u32>) -> Option<u32>
+    ensures { (facts : StoreFacts) → result ≡ smallest (conflicts facts (store_notes entries.now) caller access) }
 {
+    let row = row_named(access);
     let mut found = None;
     for entry in entries {
         found = least_with(entries, row, caller, found, entry.note);
@@ -53,7 +55,7 @@ pub(crate) fn answered_busy(answer: Answer) -> bool
 }
 
 fn less(found: Option<u32>, tx: u32) -> u32
-    ensures { result ≡ lesser found tx }
+    ensures { result ≡ smaller found tx }
 {
     match found {
         Some(other) => other.min(tx),

@@ -1,6 +1,6 @@
 // Room for an entry, and for all that is owed after it.
 ghost use Rattle.std.specs.Prelude.{◌≡◌, ◌+◌, ◌≤◌, IfOk, vec_len, vec_capacity};
-ghost use Rattle.stx_store.specs.Owed.{added};
+ghost use Rattle.stx_store.specs.Owed.{more_owed};
 
 use stx_base::{StoreEntry, StoreNote};
 use stx_scenario::NoMemory;
@@ -24,7 +24,7 @@ pub(crate) fn room_for(
 
 /// How many entries more are owed after this note.
 pub(crate) fn room_added(note: StoreNote) -> usize
-    ensures { result ≡ added note }
+    ensures { result ≡ more_owed note }
 {
     match note {
         StoreNote::Begin(_) => 1,

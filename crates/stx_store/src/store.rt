@@ -1,9 +1,10 @@
 // The store itself: its entries, and the calls.
-ghost use Rattle.std.specs.Prelude.{◌≡◌, ◌<◌, IfOk, OnOk, OnErr, IsTrue, []};
+ghost use Rattle.std.specs.Prelude.{◌≡◌, ◌<◌, IfOk, OnOk, OnErr, IsTrue};
+ghost use Rattle.stx_base.specs.Limits.{most_clients};
 ghost use Rattle.stx_base.specs.Histories.{store_notes_of};
 ghost use Rattle.stx_base.specs.Stores.{store_proper};
 ghost use Rattle.stx_base.specs.Legal.{StoreFits};
-ghost use Rattle.stx_store.specs.Store.{Store, Replies, with_entry};
+ghost use Rattle.stx_store.specs.Store.{Store, StoreReplies, new_store, with_store_entry};
 ghost use Rattle.stx_store.specs.Owed.{was_owed};
 
 use crate::answers::{access_answered, auto_answered};
@@ -11,17 +12,17 @@ use crate::counts::{begins, commits};
 use crate::room::{room_added, room_for};
 use std::alloc::Global;
 use std::marker::Model;
-use stx_base::{Access, Answer, Session, StoreEntry, StoreNote, Want};
+use stx_base::{Access, Answer, Session, StoreEntry, StoreFacts, StoreNote, Want};
 use stx_scenario::{List, NoMemory};
 
-/// A store of rows, seen as the first values and the entries of all calls so far.
+/// A store of rows, seen as what it is made with and the entries of all calls so far.
 ///
 /// Each call has to be proper after its client's own entries. It answers with the store's reply and adds one entry; for
 /// want of memory it answers `NoMemory` and changes nothing. The calls that end a transaction, go back to a savepoint
 /// or release it take no memory: the one that began or opened it has kept the room.
 #[derive(Drop)]
 pub struct StoreCore {
-    values: List<i64>,
+    facts: StoreFacts,
     entries: Vec<StoreEntry>,
     /// How many entries more there is room for: the ends of what has begun.
     owed: usize,
@@ -30,23 +31,25 @@ pub struct StoreCore {
 impl Model for StoreCore {
     ghost use Rattle.std.specs.Prelude.{vec_len, vec_capacity};
     ghost use Rattle.stx_store.specs.Store.{Store};
-    ghost use Rattle.stx_store.specs.Owed.{IsKept};
+    ghost use Rattle.stx_store.specs.Owed.{KeepsStore};
 
     ghost Value = { Store };
 
-    ghost view = { λ s. record { values = s.values; entries = s.entries.items } };
+    ghost view = { λ s. record { facts = s.facts; entries = s.entries.items } };
 
-    ghost invariant = { λ s. IsKept s.values s.entries.items s.owed (vec_len s.entries) (vec_capacity s.entries) };
+    ghost invariant = { λ s. KeepsStore s.facts s.entries.items s.owed (vec_len s.entries) (vec_capacity s.entries) };
 }
 
 impl StoreCore {
     /// A store with these first values, in the order of the rows.
     pub fn new(alloc: Global, values: &List<i64>) -> Result<StoreCore, NoMemory>
-        ensures { IfOk result (λ store. (store.values ≡ values.now) × (store.entries ≡ [])) }
+        ensures { IfOk result (λ store. store ≡ new_store (record { values = values.now })) }
     {
         let values = Vec::from_slice(alloc, values.as_slice())?;
         Ok(StoreCore {
-            values: List::from_vec(values),
+            facts: StoreFacts {
+                values: List::from_vec(values),
+            },
             entries: Vec::new(alloc),
             owed: 0,
         })
@@ -54,9 +57,9 @@ impl StoreCore {
 
     /// Begins a transaction.
     pub fn begin(&mut self, _alloc: Global, client: u32) -> Result<Session, NoMemory>
-        requires client { client < 64 }
+        requires client { client < most_clients }
         requires proper { IsTrue (store_proper (store_notes_of self.old.entries client) Want.Begin) }
-        ensures ok { IfOk result (λ session. Replies self.old self.new client Want.Begin (StoreNote.Begin session)) }
+        ensures ok { IfOk result (λ session. StoreReplies self.old self.new client Want.Begin (StoreNote.Begin session)) }
         ensures err { OnErr result (self.new ≡ self.old) }
     {
         let number = begins(&self.entries) as u32 + 1;
@@ -72,21 +75,21 @@ impl StoreCore {
         tx: u32,
         access: Access,
     ) -> Result<Answer, NoMemory>
-        requires client { client < 64 }
+        requires client { client < most_clients }
         requires proper { IsTrue (store_proper (store_notes_of self.old.entries client) (Want.Access tx access)) }
-        ensures ok { IfOk result (λ answer. Replies self.old self.new client (Want.Access tx access) (StoreNote.Access tx access answer)) }
+        ensures ok { IfOk result (λ answer. StoreReplies self.old self.new client (Want.Access tx access) (StoreNote.Access tx access answer)) }
         ensures err { OnErr result (self.new ≡ self.old) }
     {
-        let answer = access_answered(&self.values, &self.entries, tx, access);
+        let answer = access_answered(&self.facts, &self.entries, tx, access);
         self.add(client, StoreNote::Access { tx, access, answer })?;
         Ok(answer)
     }
 
     /// Opens a savepoint in a transaction.
     pub fn point(&mut self, _alloc: Global, client: u32, tx: u32) -> Result<(), NoMemory>
-        requires client { client < 64 }
+        requires client { client < most_clients }
         requires proper { IsTrue (store_proper (store_notes_of self.old.entries client) (Want.Point tx)) }
-        ensures ok { OnOk result (Replies self.old self.new client (Want.Point tx) (StoreNote.Point tx)) }
+        ensures ok { OnOk result (StoreReplies self.old self.new client (Want.Point tx) (StoreNote.Point tx)) }
         ensures err { OnErr result (self.new ≡ self.old) }
     {
         self.add(client, StoreNote::Point(tx))?;
@@ -95,27 +98,27 @@ impl StoreCore {
 
     /// Goes back to a transaction's innermost savepoint, which stays, and so do the locks.
     pub fn back_to(&mut self, client: u32, tx: u32)
-        requires client { client < 64 }
+        requires client { client < most_clients }
         requires proper { IsTrue (store_proper (store_notes_of self.old.entries client) (Want.BackTo tx)) }
-        ensures { Replies self.old self.new client (Want.BackTo tx) (StoreNote.BackTo tx) }
+        ensures { StoreReplies self.old self.new client (Want.BackTo tx) (StoreNote.BackTo tx) }
     {
         self.spend(client, StoreNote::BackTo(tx));
     }
 
     /// Releases a transaction's innermost savepoint.
     pub fn release(&mut self, client: u32, tx: u32)
-        requires client { client < 64 }
+        requires client { client < most_clients }
         requires proper { IsTrue (store_proper (store_notes_of self.old.entries client) (Want.Release tx)) }
-        ensures { Replies self.old self.new client (Want.Release tx) (StoreNote.Release tx) }
+        ensures { StoreReplies self.old self.new client (Want.Release tx) (StoreNote.Release tx) }
     {
         self.spend(client, StoreNote::Release(tx));
     }
 
     /// Commits the transaction of a session, and gives its place in the journal, from 1.
     pub fn commit(&mut self, client: u32, session: Session) -> u64
-        requires client { client < 64 }
+        requires client { client < most_clients }
         requires proper { IsTrue (store_proper (store_notes_of self.old.entries client) (Want.Commit session)) }
-        ensures { Replies self.old self.new client (Want.Commit session) (StoreNote.Commit session result) }
+        ensures { StoreReplies self.old self.new client (Want.Commit session) (StoreNote.Commit session result) }
     {
         let tx = session.number();
         session.retire();
@@ -126,9 +129,9 @@ impl StoreCore {
 
     /// Rolls back the transaction of a session.
     pub fn rollback(&mut self, client: u32, session: Session)
-        requires client { client < 64 }
+        requires client { client < most_clients }
         requires proper { IsTrue (store_proper (store_notes_of self.old.entries client) (Want.Rollback session)) }
-        ensures { Replies self.old self.new client (Want.Rollback session) (StoreNote.Rollback session) }
+        ensures { StoreReplies self.old self.new client (Want.Rollback session) (StoreNote.Rollback session) }
     {
         let tx = session.number();
         session.retire();
@@ -137,12 +140,12 @@ impl StoreCore {
 
     /// Reads, writes or erases a row outside a transaction, which commits at once, unless a transaction holds the row.
     pub fn auto(&mut self, _alloc: Global, client: u32, access: Access) -> Result<Answer, NoMemory>
-        requires client { client < 64 }
+        requires client { client < most_clients }
         requires proper { IsTrue (store_proper (store_notes_of self.old.entries client) (Want.Auto access)) }
-        ensures ok { IfOk result (λ answer. Replies self.old self.new client (Want.Auto access) (StoreNote.Auto access answer)) }
+        ensures ok { IfOk result (λ answer. StoreReplies self.old self.new client (Want.Auto access) (StoreNote.Auto access answer)) }
         ensures err { OnErr result (self.new ≡ self.old) }
     {
-        let answer = auto_answered(&self.values, &self.entries, access);
+        let answer = auto_answered(&self.facts, &self.entries, access);
         self.add(client, StoreNote::Auto { access, answer })?;
         Ok(answer)
     }
@@ -159,7 +162,7 @@ impl StoreCore {
         ensures { result ≡ self.entries }
     {
         let StoreCore {
-            values: _,
+            facts: _,
             entries,
             owed: _,
         } = self;
@@ -168,8 +171,8 @@ impl StoreCore {
 
     /// Keeps an entry, and room for what it makes the store owe.
     fn add(&mut self, client: u32, note: StoreNote) -> Result<(), NoMemory>
-        requires { StoreFits 64 self.old.values self.old.entries (record { client = client; note = note }) }
-        ensures ok { OnOk result (self.new ≡ with_entry self.old client note) }
+        requires { StoreFits most_clients self.old.facts self.old.entries (record { client = client; note = note }) }
+        ensures ok { OnOk result (self.new ≡ with_store_entry self.old client note) }
         ensures err { OnErr result (self.new ≡ self.old) }
     {
         self.owed = room_for(&mut self.entries, self.owed, room_added(note))?;
@@ -179,9 +182,9 @@ impl StoreCore {
 
     /// Keeps an entry that was owed.
     fn spend(&mut self, client: u32, note: StoreNote)
-        requires fits { StoreFits 64 self.old.values self.old.entries (record { client = client; note = note }) }
+        requires fits { StoreFits most_clients self.old.facts self.old.entries (record { client = client; note = note }) }
         requires owed { IsTrue (was_owed note) }
-        ensures { self.new ≡ with_entry self.old client note }
+        ensures { self.new ≡ with_store_entry self.old client note }
     {
         self.owed -= 1;
         self.entries.push_reserved(StoreEntry { client, note });

@@ -6,8 +6,8 @@ use crate::logged::Logged;
 use crate::rule::{InTurns, JoinIn, SplitOff};
 use crate::turns::{Place, call_on_turn, take_turn};
 use crate::view::View;
-use atomic_table::Table;
-use std::alloc::Global;
+use atomic_table::{Refused, Table};
+use std::alloc::{AllocError, Global};
 use std::marker::Model;
 use std::snapshot::Snapshot;
 use std::sync::Wait;
@@ -72,8 +72,9 @@ impl<V: Logged> TurnCell<V> {
         let mut slots = Vec::new(alloc);
         slots.push(Some(value))?;
         let made: Result<(Turns<V>, Place<V>), _> = Table::new(alloc, &[0], slots, &about);
-        let Ok((table, place)) = made else {
-            return Err(NoMemory);
+        let (table, place) = match made {
+            Ok(made) => made,
+            Err(refused) => return Err(without_table(refused)),
         };
         let seat = Seat {
             place,
@@ -121,9 +122,9 @@ impl<V: Logged> TurnCell<V> {
                 seat.count = word / 2 + 1;
                 Ok(answer)
             }
-            Err(NoMemory) => {
+            Err(refused) => {
                 seat.count = word / 2;
-                Err(NoMemory)
+                Err(refused)
             }
         }
     }
@@ -168,4 +169,9 @@ impl<V: Logged> TurnCell<V> {
         let Some(value) = value else { unreachable!() };
         value
     }
+}
+
+// The library hands back what it found no memory for.
+fn without_table<V: Drop>(_: Refused<Option<V>, Global>) -> NoMemory {
+    NoMemory::from(AllocError)
 }

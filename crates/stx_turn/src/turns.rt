@@ -137,9 +137,9 @@ pub(crate) fn call_on_turn<V: Logged>(
             publish(shared, place, value);
             Ok(answer)
         }
-        Err(NoMemory) => {
+        Err(refused) => {
             leave(shared, place, value);
-            Err(NoMemory)
+            Err(refused)
         }
     }
 }

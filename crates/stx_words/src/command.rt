@@ -8,7 +8,8 @@ use crate::matches::{matches_from, with_name};
 use crate::options::{clients_option, do_option, plain_command, seed_option};
 use crate::{Job, WordsFault};
 use clap::Command;
-use std::alloc::{AllocError, Global};
+use std::alloc::Global;
+use stx_scenario::NoMemory;
 
 /// The job that the words after the program's name state: `--do JOB`, which must be given, `--seed N` and `--clients N`.
 ///
@@ -26,11 +27,12 @@ pub fn read_words(alloc: Global, words: &[String]) -> Result<Job, WordsFault>
 }
 
 /// The command line of `springtx`.
-pub(crate) fn springtx_command<'a>(alloc: Global) -> Result<Command<'a>, AllocError>
+pub(crate) fn springtx_command<'a>(alloc: Global) -> Result<Command<'a>, NoMemory>
     ensures { IfOk result (λ command. app_of command ≡ springtx_app) }
 {
-    plain_command(alloc, "springtx")
+    let command = plain_command(alloc, "springtx")
         .arg(do_option(alloc))?
         .arg(seed_option(alloc))?
-        .arg(clients_option(alloc))
+        .arg(clients_option(alloc))?;
+    Ok(command)
 }

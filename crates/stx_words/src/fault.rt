@@ -1,8 +1,8 @@
 // Why words state no job.
 ghost use Rattle.std.specs.Prelude.{◌≡◌};
-ghost use Rattle.stx_words.specs.declared.fault.WordsFault.TheVariants.{NoMemory};
+ghost use Rattle.stx_words.specs.declared.fault.WordsFault.TheVariants.{NoMemory as WantOfMemory};
 
-use std::alloc::AllocError;
+use stx_scenario::NoMemory;
 use thiserror::Error;
 
 /// Why words state no job.
@@ -12,13 +12,13 @@ pub enum WordsFault {
     #[error("the words state no job")]
     Usage,
     #[error("out of memory")]
-    NoMemory,
+    NoMemory(NoMemory),
 }
 
-impl From<AllocError> for WordsFault {
-    ghost from_gives = { λ _ fault. fault ≡ NoMemory };
+impl From<NoMemory> for WordsFault {
+    ghost from_gives = { λ refused fault. fault ≡ WantOfMemory refused };
 
-    fn from(_: AllocError) -> Self {
-        WordsFault::NoMemory
+    fn from(refused: NoMemory) -> Self {
+        WordsFault::NoMemory(refused)
     }
 }

@@ -1,18 +1,20 @@
 // What a command line makes of words.
 ghost use Rattle.std.specs.Prelude.{◌≡◌, ◌≢◌, ◌∷◌, [], true, map, string_bytes, IfOk, IfErr};
+ghost use Rattle.clap.specs.Values.{kind_of};
 ghost use Rattle.clap.specs.Words.{app_of, fault_of, found_of, is_simple_and_free, matches_of, rows_of};
 
 use crate::WordsFault;
 use clap::error::ErrorKind;
-use clap::{ArgMatches, Command};
+use clap::{ArgMatches, Command, Error};
 use std::alloc::{AllocError, Global};
+use stx_scenario::NoMemory;
 
 /// The words with the program's name before them, as `clap` wants them.
 pub(crate) fn with_name<'a>(
     alloc: Global,
     name: &'a str,
     words: &'a [String],
-) -> Result<Vec<&'a str>, AllocError>
+) -> Result<Vec<&'a str>, NoMemory>
     ensures { IfOk result (λ all. map (λ word. word.now) all.items ≡ name.now ∷ map string_bytes words.now) }
 {
     let mut all = vec![in alloc; name]?;
@@ -34,7 +36,17 @@ pub(crate) fn matches_from<'a>(
 {
     match command.try_get_matches_from(words) {
         Ok(matches) => Ok(matches),
-        Err(error) if error.kind() == ErrorKind::OutOfMemory => Err(WordsFault::NoMemory),
+        Err(error) if error.kind() == ErrorKind::OutOfMemory => {
+            Err(WordsFault::NoMemory(want_of_memory(&error)))
+        }
         Err(_) => Err(WordsFault::Usage),
     }
+}
+
+/// The want of memory of which the library tells.
+fn want_of_memory(error: &Error) -> NoMemory
+    requires { kind_of error.now ≡ ErrorKind.OutOfMemory }
+{
+    let _ = error;
+    NoMemory::from(AllocError)
 }

@@ -1,6 +1,6 @@
 -- Each note of the store, at the stage that wants it.
 use Rattle.std.proofs.Common.{◌∙◌, ◌++◌, ◌∷◌, [], sym, ap}
-use Rattle.stx_model.specs.Meanings.{store_line}
+use Rattle.stx_base.specs.Notes.{store_line}
 use Rattle.stx_client.proofs.TurnLaws.{hears_begun, hears_answer, hears_end}
 use Rattle.stx_client.proofs.turns.hear_store.Goals as goal
 

@@ -1,5 +1,5 @@
 use Rattle.std.proofs.Common.{◌∙◌, map, replicate, ap}
-use Rattle.stx_base.specs.Weight.{body_cost, nothing}
+use Rattle.stx_base.specs.Weight.{body_cost, no_cost}
 use Rattle.stx_graph.specs.Costs.{capped, cost_at}
 use Rattle.stx_graph.proofs.WeighLaws.{first_costs, costs_more}
 use Rattle.stx_graph.proofs.weighing.method_costs.Goals as goal
@@ -7,7 +7,7 @@ use Rattle.stx_graph.proofs.weighing.method_costs.Goals as goal
 pub loop-round-init : goal.loop-round-init
 loop-round-init c =
     first_costs c.args.scenario.now c.in_ok-costs.costs.items
-    (c.in_ok-costs.ensures.items_if_clones_equal (λ y e. e) ∙ ap (λ n. replicate n nothing) c.len.ensures)
+    (c.in_ok-costs.ensures.items_if_clones_equal (λ y e. e) ∙ ap (λ n. replicate n no_cost) c.len.ensures)
 
 pub loop-round-preserved : goal.loop-round-preserved
 loop-round-preserved c =

@@ -1,7 +1,8 @@
 -- The call is proper, and its reply is the next entry.
 use Rattle.std.proofs.Common.{◌≡◌, ◌∙◌, Some, false, sym, ap, subst}
 use Rattle.stx_base.specs.declared.call.Reply.{Reply}
-use Rattle.stx_client.specs.View.{call_want, pool_call_want, store_call_want, pool_note, store_note, script_of, calling, fed}
+use Rattle.stx_base.specs.Notes.{call_want, pool_call_want, store_call_want, pool_note, store_note}
+use Rattle.stx_client.specs.View.{script_of, calling, fed}
 use Rattle.stx_model.specs.Meanings.{stop_of}
 use Rattle.stx_play.specs.Playing.{pool_note_made, store_note_made, HasTurned}
 use Rattle.stx_play.proofs.TurnLaws.{pool_made, store_made, proper_pool, proper_store, after_pool, after_store, on_ok_two}

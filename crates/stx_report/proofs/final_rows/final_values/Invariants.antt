@@ -2,7 +2,7 @@
 use Rattle.std.proofs.Common.{◌≡◌, take}
 use Rattle.stx_base.specs.Histories.{store_notes}
 use Rattle.stx_report.specs.RowValues.{values_from}
-use Rattle.stx_report.proofs.ValueLaws.{rows_so_far}
+use Rattle.stx_base.proofs.RowLaws.{rows_so_far}
 use Rattle.stx_report.proofs.final_rows.final_values.Given as goal
 
 abbrev pub invariant-loop-entry : goal.invariant-loop-entry

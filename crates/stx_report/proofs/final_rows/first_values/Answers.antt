@@ -1,7 +1,8 @@
 -- One value more.
 use Rattle.std.proofs.Common.{◌<◌, length, sym, ◌∙◌, arith}
 use Rattle.stx_base.specs.Alone.{first_rows}
-use Rattle.stx_report.proofs.ValueLaws.{first_rows-at, values_next}
+use Rattle.stx_base.proofs.RowLaws.{first_rows-at}
+use Rattle.stx_report.proofs.ValueLaws.{values_next}
 use Rattle.stx_report.proofs.final_rows.first_values.Goals as goal
 
 pub loop-row-preserved : goal.loop-row-preserved

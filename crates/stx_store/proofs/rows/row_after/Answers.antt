@@ -1,7 +1,8 @@
 use Rattle.std.proofs.Common.{sym, ◌∙◌}
 use Rattle.stx_base.specs.Histories.{store_notes}
 use Rattle.stx_base.specs.declared.history.StoreNote.{StoreNote}
-use Rattle.stx_store.proofs.CellLaws.{first_rows-at, value-more}
+use Rattle.stx_base.proofs.RowLaws.{first_rows-at}
+use Rattle.stx_store.proofs.CellLaws.{value-more}
 use Rattle.stx_store.proofs.rows.row_after.Goals as goal
 
 pub loop-entry-init : goal.loop-entry-init
