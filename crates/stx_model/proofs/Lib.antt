@@ -7,3 +7,5 @@ pub mod SerialLaw
 pub mod Small
 pub mod JoinRows
 pub mod FreshLaw
+pub mod FlatForm
+pub mod FlatTransfer

@@ -8,6 +8,7 @@ pub mod Statements
 pub mod Rounds
 pub mod Scopes
 pub mod Script
+pub mod Built
 pub mod Flat
 pub mod Played
 pub mod Faithful
