@@ -347,7 +347,7 @@ is_the_required Propagation.Nested is = absurd (false≢true is)
 
 -- a method that is there, or a number past the last
 pub data Kinds (S : Scenario) (m : MethodNo) : Type 0 where
-  There : (a : TxAttr) → attribute S m ≡ Some a → a.propagation ≡ Propagation.Required → Kinds S m
+  There : m.0 < length S.methods → (a : TxAttr) → attribute S m ≡ Some a → a.propagation ≡ Propagation.Required → Kinds S m
   Past : attribute S m ≡ None → body_of S m ≡ [] → Kinds S m
 
 module _ (S : Scenario) (built : IsBuilt S) (m : MethodNo) where
@@ -355,7 +355,7 @@ module _ (S : Scenario) (built : IsBuilt S) (m : MethodNo) where
   kind_of = by_method (slice_get S.methods m.0) refl
     where
       by_attribute : (method : Method) → slice_get S.methods m.0 ≡ Some method → (o : Option TxAttr) → method_attribute S method ≡ o → has_required o ≡ true → Kinds S m
-      by_attribute method there (Some a) is required = There a (ap (option_and_then (method_attribute S)) there ∙ is) (is_the_required a.propagation required)
+      by_attribute method there (Some a) is required = There (slice_get_within S.methods m.0 method there) a (ap (option_and_then (method_attribute S)) there ∙ is) (is_the_required a.propagation required)
       by_attribute method there None is required = absurd (false≢true required)
 
       by_method : (o : Option Method) → slice_get S.methods m.0 ≡ o → Kinds S m
@@ -441,7 +441,7 @@ module _ (S : Scenario) (built : IsBuilt S) where
       st = state lines bare None pool store
 
       by_kind : Kinds S m → invoked S (calls_below S 0) Proxied m st ≡ flat.intercepted S m (attribute S m) st
-      by_kind (There a is required) =
+      by_kind (There below a is required) =
           ap (λ o. proxied S (calls_below S 0) m o st) is
           ∙ intercepted_same S (calls_below S 0) m a (body_built S built m) required lines pool store
           ∙ ap (λ o. flat.intercepted S m o st) (sym is)

@@ -9,3 +9,5 @@ pub mod JoinRows
 pub mod FreshLaw
 pub mod FlatForm
 pub mod FlatTransfer
+pub mod FlatWeight
+pub mod FlatReads

@@ -9,7 +9,6 @@ pub mod Rounds
 pub mod Scopes
 pub mod Script
 pub mod Built
-pub mod Flat
 pub mod Played
 pub mod Faithful
 pub mod Reads
