@@ -11,3 +11,8 @@ pub mod FlatForm
 pub mod FlatTransfer
 pub mod FlatWeight
 pub mod FlatReads
+pub mod ProperNotes
+pub mod FlatProper
+pub mod EntriesLaw
+pub mod PlayedLaw
+pub mod FlatGrowth

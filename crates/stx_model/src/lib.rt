@@ -4,7 +4,10 @@
 
 mod laws;
 
-pub use laws::{journal_is_serial, own_notes_fresh};
+pub use laws::{
+    balanced, done_is_faithful, entries_within, gives_all_back, journal_is_serial, own_notes_fresh,
+    reads_within, wants_proper,
+};
 pub use stx_base::{
     Access, Answer, Call, ClientLines, Connection, Cost, Ending, Kind, Label, Line, Opening,
     Outcome, PoolAnswer, PoolCall, PoolEntry, PoolNote, Reply, Report, Round, Session, StoreAnswer,
