@@ -7,7 +7,7 @@ use Rattle.std.proofs.lemmas.List.Sums.{sum_by-cons, sum-map}
 use Rattle.stx_scenario.specs.declared.numbers.ClassNo.{ClassNo}
 use Rattle.stx_scenario.specs.declared.numbers.MethodNo.{MethodNo}
 use Rattle.stx_scenario.specs.declared.numbers.RowNo.{RowNo}
-use Rattle.stx_scenario.specs.declared.classes.TheConstants.{ILLEGAL_STATE_EXCEPTION, ARITHMETIC_EXCEPTION, CANNOT_ACQUIRE_LOCK_EXCEPTION}
+use Rattle.stx_scenario.specs.declared.classes.TheConstants.{ILLEGAL_STATE_EXCEPTION, ARITHMETIC_EXCEPTION}
 use Rattle.stx_scenario.specs.declared.scenario.Scenario.{Scenario}
 use Rattle.stx_scenario.specs.declared.scenario.Stmt.{Stmt}
 use Rattle.stx_scenario.specs.declared.scenario.TxAttr.{TxAttr}
@@ -25,7 +25,7 @@ use Rattle.stx_base.specs.Histories.{total}
 use Rattle.stx_model.specs.Laws.{ReadsWithin}
 use Rattle.stx_model.specs.Meanings.{State, Result, Over, Stops, Breaks, state_of, at_first, Meaning, Note, FromPool, FromStore, and_then, finally, say, with_context, with_local, unread, hear, answered, is_answer, ask, on_take, on_begin, on_access}
 use Rattle.stx_model.specs.Reads.{count_unread, notes_read}
-use Rattle.stx_base.specs.Weight.{body_of, cost, size, client_weight, weight} 
+use Rattle.stx_base.specs.Weight.{body_of, cost, size, client_weight, weight}
 use Rattle.stx_base.specs.Weight.{total as total_cost}
 use Rattle.stx_model.specs.Opening.{owns_fresh}
 use Rattle.stx_model.specs.Statements.{throws, concludes, unless_busy, access_row, nothing_more, value_of, is_value, needed, added, in_transaction}

@@ -9,7 +9,7 @@ use Rattle.std.proofs.lemmas.Option.{slice_get_within, get_or_from_slice_get}
 use Rattle.stx_scenario.specs.declared.numbers.ClassNo.{ClassNo}
 use Rattle.stx_scenario.specs.declared.numbers.MethodNo.{MethodNo}
 use Rattle.stx_scenario.specs.declared.numbers.RowNo.{RowNo}
-use Rattle.stx_scenario.specs.declared.classes.TheConstants.{ILLEGAL_STATE_EXCEPTION, ARITHMETIC_EXCEPTION, CANNOT_ACQUIRE_LOCK_EXCEPTION}
+use Rattle.stx_scenario.specs.declared.classes.TheConstants.{ILLEGAL_STATE_EXCEPTION, ARITHMETIC_EXCEPTION}
 use Rattle.stx_scenario.specs.declared.scenario.Scenario.{Scenario}
 use Rattle.stx_scenario.specs.declared.scenario.Method.{Method}
 use Rattle.stx_scenario.specs.declared.scenario.Stmt.{Stmt}
@@ -32,7 +32,7 @@ use Rattle.stx_model.specs.Ending.{ending, completion, Resumption}
 use Rattle.stx_model.specs.Meanings.{State, at_first, Result, Over, Stops, Breaks, Meaning, Note, FromPool, FromStore, and_then, finally, say, with_context, with_local, unread, hear, answered, is_answer, ask, on_take, on_begin, on_access}
 use Rattle.stx_model.specs.Statements.{throws, concludes, unless_busy, access_row, nothing_more, value_of, is_value, needed, added, in_transaction, row_statement}
 use Rattle.stx_model.specs.Rounds.{Calls, Proxied, callback_statement, stopping_round, swallowing_round}
-use Rattle.stx_model.specs.Scopes.{Scope, leaves, fresh_context, rolls, ruled, acts, completes, ends, in_scope, begins, opens, intercepted}
+use Rattle.stx_model.specs.Scopes.{Scope, leaves, fresh_context, rolls, acts, completes, ends, in_scope, begins, opens, intercepted}
 use Rattle.stx_model.specs.Script.{statement, body, proxied, invoked, calls_below, invoke, tops, calls_of, script}
 use Rattle.stx_model.specs.Built.{is_required, has_required, is_built, IsBuiltMethod, IsBuilt}
 use Rattle.stx_model.proofs.FlatForm as flat

@@ -1,4 +1,3 @@
-use Rattle.stx_model.proofs.FlatGrowth.{tops_grows}
 use Rattle.stx_model.proofs.FlatProper.{wants_proper}
 use Rattle.stx_model.proofs.laws.wants_proper.Goals as goal
 
