@@ -55,8 +55,8 @@ WantsProper = (S : Scenario) → IsBuilt S → weight S ≤ 200000
     → (c : ℕ) (pool : List PoolNote) (store : List StoreNote) (want : Want) (end : State)
     → script S c pool store ≡ Stops want end → end.pool ≡ [] → end.store ≡ [] → IsProperAfter pool store want
 
--- where the forms are built: in the lines of a script that is done, takes and gives are brackets, and so are the begins and the ends of
--- transactions; all are closed where a top-level call begins
+-- where the forms are built: in the lines of a script that is done, takes and gives are brackets, and so are the begins
+-- and the ends of transactions; all are closed where a top-level call begins
 abbrev pub Balanced : Type 0
 Balanced = (S : Scenario) → IsBuilt S → (c : ℕ) (pool : List PoolNote) (store : List StoreNote) (end : State)
     → script S c pool store ≡ Stops Want.Done end → IsBalanced (map connection_bracket end.lines) × IsBalanced (map transaction_bracket end.lines)
