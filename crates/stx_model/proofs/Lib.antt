@@ -11,3 +11,12 @@ pub mod Apart
 pub mod TooLate
 pub mod Keeping
 pub mod Leaving
+pub mod FlatForm
+pub mod FlatTransfer
+pub mod FlatWeight
+pub mod FlatReads
+pub mod ProperNotes
+pub mod FlatProper
+pub mod EntriesLaw
+pub mod PlayedLaw
+pub mod FlatGrowth

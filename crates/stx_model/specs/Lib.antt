@@ -8,7 +8,7 @@ pub mod Statements
 pub mod Rounds
 pub mod Scopes
 pub mod Script
-pub mod Flat
+pub mod Built
 pub mod Played
 pub mod Faithful
 pub mod Reads

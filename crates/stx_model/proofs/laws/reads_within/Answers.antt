@@ -1,0 +1,5 @@
+use Rattle.stx_model.proofs.FlatReads.{reads_within}
+use Rattle.stx_model.proofs.laws.reads_within.Goals as goal
+
+pub returns : goal.returns
+returns c = reads_within
