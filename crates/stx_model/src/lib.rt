@@ -11,7 +11,7 @@ pub use laws::{
     requires_new_stands_apart, wants_proper,
 };
 pub use stx_base::{
-    Access, Answer, Call, ClientLines, Connection, Cost, Ending, Kind, Label, Line, Opening,
+    Access, Answer, Call, ClientLines, Connection, Cost, Ending, Kind, Label, Line, Note, Opening,
     Outcome, PoolAnswer, PoolCall, PoolEntry, PoolNote, Reply, Report, Round, Session, StoreAnswer,
-    StoreCall, StoreEntry, StoreNote, ToolEnd, Want,
+    StoreCall, StoreEntry, StoreFacts, StoreNote, ToolEnd, Want,
 };

@@ -1,10 +1,13 @@
 -- What callers see of a pool, what a call leaves of it, and what its fields keep true.
 use Rattle.std.specs.Prelude.{◌≡◌, ℕ, ◌+◌, ◌<◌, ◌≤◌, Bool, false, List, [], ◌∷◌, ◌++◌, length, Some, slice_index_or}
 use Rattle.stx_base.specs.declared.call.Want.{Want}
+use Rattle.stx_base.specs.declared.call.PoolCall.{PoolCall}
+use Rattle.stx_base.specs.declared.call.PoolAnswer.{PoolAnswer}
 use Rattle.stx_base.specs.declared.history.PoolNote.{PoolNote}
 use Rattle.stx_base.specs.declared.history.PoolEntry.{PoolEntry}
 use Rattle.stx_base.specs.Limits.{most_clients, most_connections}
 use Rattle.stx_base.specs.Histories.{pool_notes}
+use Rattle.stx_base.specs.Notes.{pool_call_want, pool_note}
 use Rattle.stx_base.specs.Pools.{contains, out, pool_reply}
 use Rattle.stx_base.specs.Legal.{PoolLegal}
 
@@ -25,6 +28,12 @@ with_pool_entry pool client note = record { size = pool.size; entries = pool.ent
 pub record PoolReplies (old new : Pool) (client : ℕ) (want : Want) (note : PoolNote) : Type 0 where
   pub reply : pool_reply old.size old.entries want ≡ Some note
   pub kept : new ≡ with_pool_entry old client note
+
+-- the answer and the call together are the note that the pool replies, and the pool has kept it
+pub record PoolCallAnswered (old new : Pool) (client : ℕ) (call : PoolCall) (answer : PoolAnswer) : Type 0 where
+  pub note : PoolNote
+  pub made : pool_note (pool_call_want call) answer ≡ Some note
+  pub replies : PoolReplies old new client (pool_call_want call) note
 
 -- the flags say which connections are out in a legal history, and there is room to give each of these back
 pub record KeepsPool (flags : List Bool) (entries : List PoolEntry) (capacity : ℕ) : Type 0 where

@@ -1,13 +1,14 @@
 // The pool itself: its history, and which connections are out.
-ghost use Rattle.std.specs.Prelude.{◌≡◌, ◌≤◌, ◌<◌, ◌↔◌, length, not, position, IfOk, OnErr, IsTrue, IsNone};
+ghost use Rattle.std.specs.Prelude.{◌≡◌, ◌≤◌, ◌<◌, ◌↔◌, length, not, position, IfOk, OnErr, IsTrue, IsOk, IsNone};
 ghost use Rattle.stx_base.specs.Limits.{most_clients, most_connections};
 ghost use Rattle.stx_base.specs.Histories.{pool_notes, pool_notes_of};
 ghost use Rattle.stx_base.specs.Pools.{out, pool_proper, taken_or_empty};
-ghost use Rattle.stx_pool.specs.Pool.{PoolReplies, new_pool};
+ghost use Rattle.stx_base.specs.Notes.{pool_call_want, pool_call_is_sure};
+ghost use Rattle.stx_pool.specs.Pool.{PoolReplies, PoolCallAnswered, new_pool};
 
 use std::alloc::Global;
 use std::marker::Model;
-use stx_base::{Connection, PoolEntry, PoolNote, Want};
+use stx_base::{Connection, PoolAnswer, PoolCall, PoolEntry, PoolNote, Want};
 use stx_scenario::{List, NoMemory};
 
 /// A pool of connections, seen as its size and its history.
@@ -86,6 +87,32 @@ impl PoolCore {
             client,
             note: PoolNote::Given(number),
         });
+    }
+
+    /// Answers a client's call; a connection that it gives back is spent. For want of memory the pool stays as it was,
+    /// and a give never lacks it.
+    pub fn answer(
+        &mut self,
+        alloc: Global,
+        client: u32,
+        call: PoolCall,
+    ) -> Result<PoolAnswer, NoMemory>
+        requires client { client < most_clients }
+        requires proper { IsTrue (pool_proper (pool_notes_of self.old.entries client) (pool_call_want call)) }
+        ensures ok { IfOk result (λ answer. PoolCallAnswered self.old self.new client call answer) }
+        ensures err { OnErr result (self.new ≡ self.old) }
+        ensures sure { IsTrue (pool_call_is_sure call) → IsOk result }
+    {
+        match call {
+            PoolCall::Take => Ok(match self.take(alloc, client)? {
+                Some(connection) => PoolAnswer::Taken(connection),
+                None => PoolAnswer::Empty,
+            }),
+            PoolCall::Give(connection) => {
+                self.give(client, connection);
+                Ok(PoolAnswer::Given)
+            }
+        }
     }
 
     /// The history: each call with its answer, in order.

@@ -2,8 +2,11 @@
 use Rattle.std.specs.Prelude.{◌≡◌, ℕ, List, [], ◌∷◌, ◌++◌, Some}
 use Rattle.stx_base.specs.declared.facts.StoreFacts.{StoreFacts}
 use Rattle.stx_base.specs.declared.call.Want.{Want}
+use Rattle.stx_base.specs.declared.call.StoreCall.{StoreCall}
+use Rattle.stx_base.specs.declared.call.StoreAnswer.{StoreAnswer}
 use Rattle.stx_base.specs.declared.history.StoreNote.{StoreNote}
 use Rattle.stx_base.specs.declared.history.StoreEntry.{StoreEntry}
+use Rattle.stx_base.specs.Notes.{store_call_want, store_note}
 use Rattle.stx_base.specs.Stores.{store_reply}
 
 -- what it is made with, and the entries of all calls so far, in order
@@ -23,3 +26,9 @@ with_store_entry store client note = record { facts = store.facts; entries = sto
 pub record StoreReplies (old new : Store) (client : ℕ) (want : Want) (note : StoreNote) : Type 0 where
   pub reply : store_reply old.facts old.entries want ≡ Some note
   pub kept : new ≡ with_store_entry old client note
+
+-- the answer and the call together are the note that the store replies, and the store has kept it
+pub record StoreCallAnswered (old new : Store) (client : ℕ) (call : StoreCall) (answer : StoreAnswer) : Type 0 where
+  pub note : StoreNote
+  pub made : store_note (store_call_want call) answer ≡ Some note
+  pub replies : StoreReplies old new client (store_call_want call) note

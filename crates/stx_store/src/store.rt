@@ -1,10 +1,11 @@
 // The store itself: its entries, and the calls.
-ghost use Rattle.std.specs.Prelude.{◌≡◌, ◌<◌, IfOk, OnOk, OnErr, IsTrue};
+ghost use Rattle.std.specs.Prelude.{◌≡◌, ◌<◌, IfOk, OnOk, OnErr, IsTrue, IsOk};
 ghost use Rattle.stx_base.specs.Limits.{most_clients};
 ghost use Rattle.stx_base.specs.Histories.{store_notes_of};
 ghost use Rattle.stx_base.specs.Stores.{store_proper};
 ghost use Rattle.stx_base.specs.Legal.{StoreFits};
-ghost use Rattle.stx_store.specs.Store.{Store, StoreReplies, new_store, with_store_entry};
+ghost use Rattle.stx_base.specs.Notes.{store_call_want, store_call_is_sure};
+ghost use Rattle.stx_store.specs.Store.{Store, StoreReplies, StoreCallAnswered, new_store, with_store_entry};
 ghost use Rattle.stx_store.specs.Owed.{was_owed};
 
 use crate::answers::{access_answered, auto_answered};
@@ -12,7 +13,9 @@ use crate::counts::{begins, commits};
 use crate::room::{room_added, room_for};
 use std::alloc::Global;
 use std::marker::Model;
-use stx_base::{Access, Answer, Session, StoreEntry, StoreFacts, StoreNote, Want};
+use stx_base::{
+    Access, Answer, Session, StoreAnswer, StoreCall, StoreEntry, StoreFacts, StoreNote, Want,
+};
 use stx_scenario::{List, NoMemory};
 
 /// A store of rows, seen as what it is made with and the entries of all calls so far.
@@ -148,6 +151,48 @@ impl StoreCore {
         let answer = auto_answered(&self.facts, &self.entries, access);
         self.add(client, StoreNote::Auto { access, answer })?;
         Ok(answer)
+    }
+
+    /// Answers a client's call; a session whose transaction it ends is spent. For want of memory the store stays as it
+    /// was. A return to a savepoint, a release, a commit and a rollback never lack it.
+    pub fn answer(
+        &mut self,
+        alloc: Global,
+        client: u32,
+        call: StoreCall,
+    ) -> Result<StoreAnswer, NoMemory>
+        requires client { client < most_clients }
+        requires proper { IsTrue (store_proper (store_notes_of self.old.entries client) (store_call_want call)) }
+        ensures ok { IfOk result (λ answer. StoreCallAnswered self.old self.new client call answer) }
+        ensures err { OnErr result (self.new ≡ self.old) }
+        ensures sure { IsTrue (store_call_is_sure call) → IsOk result }
+    {
+        match call {
+            StoreCall::Begin => Ok(StoreAnswer::Begun(self.begin(alloc, client)?)),
+            StoreCall::Access(tx, access) => {
+                Ok(StoreAnswer::Answered(self.access(alloc, client, tx, access)?))
+            }
+            StoreCall::Auto(access) => {
+                Ok(StoreAnswer::Answered(self.auto(alloc, client, access)?))
+            }
+            StoreCall::Point(tx) => {
+                self.point(alloc, client, tx)?;
+                Ok(StoreAnswer::Pointed)
+            }
+            StoreCall::BackTo(tx) => {
+                self.back_to(client, tx);
+                Ok(StoreAnswer::BackedTo)
+            }
+            StoreCall::Release(tx) => {
+                self.release(client, tx);
+                Ok(StoreAnswer::Released)
+            }
+            StoreCall::Commit(session) => Ok(StoreAnswer::Committed(self.commit(client, session))),
+            StoreCall::Rollback(session) => {
+                self.rollback(client, session);
+                Ok(StoreAnswer::RolledBack)
+            }
+        }
     }
 
     /// The entries of all calls so far, in order.
