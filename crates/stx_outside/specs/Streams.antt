@@ -58,11 +58,13 @@ GainsEnd (Some before) (Some now) end = now ≡ before ++ end
 abbrev pub GainsPrefix : Option (List ℕ) → Option (List ℕ) → List ℕ → Type 0
 GainsPrefix before now bytes = (count : ℕ) × GainsEnd before now (take count bytes)
 
--- a read put the first of the bytes left into a slice: as many as it says, and none only at the end or without room
+-- a read put the first of the bytes left into a slice: as many as it says, none only at the end or without room, and
+-- none at an error
 pub record Reads {E : Type 0} (before now : Option (List ℕ)) (result : Result ℕ E) (into : List ℕ) : Type 0 where
   pub bound : IfOk result (λ count. count ≤ length into)
   pub front : IfOk result (λ count. LosesFront before now (take count into))
   pub end : IfOk result (λ count. count ≡ 0 → 0 < length into → HasEnded now)
+  pub unchanged : OnErr result (now ≡ before)
   pub told : TellsAlike before now
 
 -- a write took the first bytes of a slice: as many as it says, at least one if there is one, and none at an error

@@ -16,6 +16,7 @@ pub trait Source {
     ghost turns: { Self → ℕ };
 
     /// Puts the next bytes at the front of a slice, and says how many. 0 into a slice that isn't empty is the end.
+    /// A read that fails leaves the bytes to come.
     fn read(&mut self, into: &mut [u8]) -> Result<usize, Failed>
         ensures bytes { Reads (left self.old) (left self.new) result into.new }
         ensures cause { HasCause (faults self.old) (faults self.new) result }

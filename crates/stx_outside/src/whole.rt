@@ -1,11 +1,10 @@
 // Reading a source to its end, and writing a whole slice to a sink.
 ghost use Rattle.std.specs.Prelude.{◌≡◌, ◌≢◌, ℕ, ◌+◌, ◌≤◌, vec_len, IfOk, OnOk, OnErr, IsErrOf};
 ghost use Rattle.stx_outside.specs.declared.whole.ReadEnd.TheVariants.{Fault, NoMemory as Refused};
-ghost use Rattle.stx_scenario.specs.Memory.{no_memory};
 ghost use Rattle.stx_outside.specs.Streams.{GainsEnd, GainsPrefix, HasCause, LosesAll, LosesMore, LosesWithin, Rose, TellsAlike};
 
 use crate::{Failed, Sink, Source};
-use std::alloc::{AllocError, Global};
+use std::alloc::Global;
 use stx_scenario::NoMemory;
 
 // The most bytes that one read asks for.
@@ -30,11 +29,11 @@ impl From<Failed> for ReadEnd {
     }
 }
 
-impl From<AllocError> for ReadEnd {
-    ghost from_gives = { λ _ end. end ≡ Refused no_memory };
+impl From<NoMemory> for ReadEnd {
+    ghost from_gives = { λ refused end. end ≡ Refused refused };
 
-    fn from(refused: AllocError) -> Self {
-        ReadEnd::NoMemory(refused.into())
+    fn from(refused: NoMemory) -> Self {
+        ReadEnd::NoMemory(refused)
     }
 }
 
@@ -47,8 +46,10 @@ pub fn read_whole<S: Source>(
 ) -> Result<Vec<u8>, ReadEnd>
     ensures whole { IfOk result (λ bytes. LosesAll (S.left source.old) (S.left source.new) bytes.items) }
     ensures within { IfOk result (λ bytes. vec_len bytes ≤ limit) }
-    ensures too_long { IsErrOf result ReadEnd.TooLong → LosesMore limit (S.left source.old) (S.left source.new) }
-    ensures no_memory { IsErrOf result (ReadEnd.NoMemory no_memory) → LosesWithin limit (S.left source.old) (S.left source.new) }
+
+    // Exactly where more bytes than the limit were read, it is too long.
+    ensures too_long { result ≡ Err ReadEnd.TooLong → LosesMore limit (S.left source.old) (S.left source.new) }
+    ensures no_longer { result ≢ Err ReadEnd.TooLong → LosesWithin limit (S.left source.old) (S.left source.new) }
     ensures told { TellsAlike (S.left source.old) (S.left source.new) }
 
     // The count of faults rises at a fault alone.
@@ -69,7 +70,8 @@ pub fn read_whole<S: Source>(
         if count > limit - all.len() {
             return Err(ReadEnd::TooLong);
         }
-        all.extend_from_slice(&piece[..count])?;
+        all.extend_from_slice(&piece[..count])
+            .map_err(NoMemory::from)?;
     }
 }
 

@@ -12,9 +12,9 @@ pub struct NoMemory {
 }
 
 impl NoMemory {
-    /// So many items and so many more are too many to count.
+    /// So many items and so many more have no numbers of 32 bits.
     pub fn uncountable(items: usize, more: usize) -> Self
-        requires { 2 ^ 64 ≤ items + more }
+        requires { 2 ^ 32 ≤ items + more }
     {
         NoMemory { refused: () }
     }

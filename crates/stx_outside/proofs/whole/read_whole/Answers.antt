@@ -11,9 +11,8 @@ returns-then-count-limit-clause-too_long g c =
     c.pieces.all.items (take c.in_ok-count.count c.read.new.into)
     c.pieces.invariant.front c.in_ok-count.ensures.bytes.front (omega arith)
 
-pub returns-in_err-extend_from_slice-clause-no_memory :
-    goal.returns-in_err-extend_from_slice-clause-no_memory
-returns-in_err-extend_from_slice-clause-no_memory g c =
+pub returns-in_err-map_err-clause-no_longer : goal.returns-in_err-map_err-clause-no_longer
+returns-in_err-map_err-clause-no_longer g c =
     let piece-length : length (take c.in_ok-count.count c.read.new.into) ≡ c.in_ok-count.count = length-take-le _ _ c.in_ok-count.ensures.bytes.bound in
     λ _. LosesWithin-piece c.args.limit
     (g.S.Source.left c.args.source.now) (g.S.Source.left c.pieces.source) (g.S.Source.left c.read.new.self)
