@@ -54,6 +54,10 @@ total_built S of (s ∷ body) built =
     ∙ ap (plus one) (total_built S of body (All-tail (λ x. is_built x ≡ true) s body built))
     ∙ ap sized count
 
+pub statements_built : (S : Scenario) (of : MethodNo → Cost) (body : List Stmt) → AllPass is_built body → (total (map (statement_cost S of) body)).size ≡ length body
+unfolding sized
+statements_built S of body built = ap (λ (c : Cost). c.size) (total_built S of body built)
+
 cost_built : (S : Scenario) (depth : ℕ) (m : MethodNo) → 0 < depth → AllPass is_built (body_of S m) → cost_within S depth m ≡ sized (call_weight S m)
 unfolding cost_within sized
 cost_built S zero m some built = absurd (omega (arith, some))

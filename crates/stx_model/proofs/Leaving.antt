@@ -43,7 +43,7 @@ after_kept P context (Over x st) next kept then = then x st kept
 after_kept P context (Stops w st) next kept then = tt
 after_kept P context (Breaks st) next kept then = tt
 
-ruled_keeps : (S : Scenario) (a : TxAttr) (x : Option ClassNo) (st : State) → (ruled S a.rules x st).context ≡ st.context
+pub ruled_keeps : (S : Scenario) (a : TxAttr) (x : Option ClassNo) (st : State) → (ruled S a.rules x st).context ≡ st.context
 ruled_keeps S a (Some x) st = refl
 ruled_keeps S a None st = refl
 
@@ -387,7 +387,7 @@ module _ (S : Scenario) (calls : Calls) (called : CallsKeep calls) (m : MethodNo
   abbrev Leaves : Opening → Context → Option ClassNo → State → Type 0
   Leaves o before x after = LeavesContext o before after.context
 
-  opens_leaves : (o : Opening) (st : State) → opening S.settings a st.context ≡ o → AtEnd (opens S calls m a run o st) (Leaves o st.context)
+  pub opens_leaves : (o : Opening) (st : State) → opening S.settings a st.context ≡ o → AtEnd (opens S calls m a run o st) (Leaves o st.context)
   unfolding opens
   opens_leaves (Opening.Refuse x) st is = refl
   opens_leaves (Opening.Fresh suspends owns) st is =
@@ -448,7 +448,7 @@ module _ (S : Scenario) (calls : Calls) (called : CallsKeep calls) where
   statement_keeps (Stmt.Call m catch) st = callback_statement_keeps S calls called (Stmt.Call m catch) st
   statement_keeps (Stmt.Throw x) st = callback_statement_keeps S calls called (Stmt.Throw x) st
 
-  body_keeps : (statements : List Stmt) → Keeps (body S calls statements)
+  pub body_keeps : (statements : List Stmt) → Keeps (body S calls statements)
   unfolding body
   body_keeps [] st = kept_refl st.context
   body_keeps (s ∷ statements) st =
@@ -465,12 +465,12 @@ module _ (S : Scenario) (calls : Calls) (called : CallsKeep calls) where
       (λ x after left. kept_by (opening S.settings a st.context) st.context after.context left)
       (intercepted_leaves S calls called m a (body S calls (body_of S m)) (body_keeps (body_of S m)) st)
 
-  invoked_keeps : CallsKeep (invoked S calls)
+  pub invoked_keeps : CallsKeep (invoked S calls)
   unfolding invoked
   invoked_keeps Proxied m st = proxied_keeps m (attribute S m) st
   invoked_keeps Direct m st = unscoped_keeps (Line.This m) m st
 
-calls_keep : (S : Scenario) (bound : ℕ) → CallsKeep (calls_below S bound)
+pub calls_keep : (S : Scenario) (bound : ℕ) → CallsKeep (calls_below S bound)
 unfolding calls_below
 calls_keep S zero way m st = tt
 calls_keep S (suc bound) way m st =

@@ -14,9 +14,14 @@ pub mod Leaving
 pub mod FlatForm
 pub mod FlatTransfer
 pub mod FlatWeight
-pub mod FlatReads
 pub mod ProperNotes
 pub mod FlatProper
 pub mod EntriesLaw
 pub mod PlayedLaw
 pub mod FlatGrowth
+pub mod Spending
+pub mod Sharing
+pub mod Rounding
+pub mod ScopeCosts
+pub mod ScriptCosts
+pub mod ReadsLaw

@@ -19,22 +19,22 @@ use Rattle.stx_model.specs.Reads.{IsEndOf, ReadsAll, notes_read, TakesFresh, Beg
 use Rattle.stx_model.specs.Script.{script}
 use Rattle.stx_base.specs.Serial.{Serial}
 use Rattle.stx_base.specs.Stores.{live, store_facts}
-use Rattle.stx_base.specs.Weight.{weight}
+use Rattle.stx_base.specs.Weight.{InRange, HasNoCycle, leads, weight}
 
 -- a legal history of the store is serial
 abbrev pub JournalIsSerial : Type 0
 JournalIsSerial = (clients : ℕ) (facts : StoreFacts) (history : List StoreEntry) → StoreLegal clients facts history → Serial facts history
 
--- where the forms are built: over any notes, the scripts of all clients together read at most eight notes for each unit
--- of weight
+-- where no method leads to itself: over any notes, the scripts of all clients together read at most eight notes for each
+-- unit of weight
 abbrev pub ReadsWithin : Type 0
-ReadsWithin = (S : Scenario) → IsBuilt S → (pool : ℕ → List PoolNote) (store : ℕ → List StoreNote)
+ReadsWithin = (S : Scenario) → InRange S → HasNoCycle (leads S) (length S.methods) → (pool : ℕ → List PoolNote) (store : ℕ → List StoreNote)
     → sum_below (length S.clients) (λ c. notes_read S c (pool c) (store c)) ≤ notes_a_unit * weight S
 
--- where the forms are built: legal histories whose notes the clients' scripts have all read have at most eight entries
--- for each unit of weight
+-- where no method leads to itself: legal histories whose notes the clients' scripts have all read have at most eight
+-- entries for each unit of weight
 abbrev pub EntriesWithin : Type 0
-EntriesWithin = (S : Scenario) → IsBuilt S → (pool : List PoolEntry) (store : List StoreEntry)
+EntriesWithin = (S : Scenario) → InRange S → HasNoCycle (leads S) (length S.methods) → (pool : List PoolEntry) (store : List StoreEntry)
     → PoolLegal (length S.clients) S.settings.pool pool → StoreLegal (length S.clients) (store_facts S) store
     → ((c : ℕ) → c < length S.clients → ReadsAll S c (pool_notes_of pool c) (store_notes_of store c))
     → length pool + length store ≤ notes_a_unit * weight S

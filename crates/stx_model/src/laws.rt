@@ -9,13 +9,13 @@ pub fn journal_is_serial()
     ensures { JournalIsSerial }
 {}
 
-/// How many notes scripts read, in a scenario whose forms are built. Over any notes, the scripts of all clients together
+/// How many notes scripts read, in a scenario in which no method leads to itself. Over any notes, the scripts of all clients together
 /// read at most eight for each unit of the scenario's weight.
 pub fn reads_within()
     ensures { ReadsWithin }
 {}
 
-/// How long histories grow, in a scenario whose forms are built. Legal histories of the pool and of the store, of which
+/// How long histories grow, in a scenario in which no method leads to itself. Legal histories of the pool and of the store, of which
 /// each client's script has read all of the client's own notes, have together at most eight entries for each unit of the
 /// scenario's weight.
 pub fn entries_within()

@@ -1,4 +1,4 @@
-use Rattle.stx_model.proofs.FlatReads.{reads_within}
+use Rattle.stx_model.proofs.ReadsLaw.{reads_within}
 use Rattle.stx_model.proofs.laws.reads_within.Goals as goal
 
 pub returns : goal.returns
