@@ -1,219 +1,60 @@
--- How many notes a script reads: each piece leaves at most so many fewer unread.
-use Rattle.std.proofs.Common.{◌≡◌, ℕ, zero, suc, ◌+◌, ◌*◌, ◌≤◌, Bool, true, false, ℤ, ◌+ℤ◌, List, [], ◌∷◌, length, Option, Some, None, refl, sym, ap, ◌∙◌, arith}
-use Rattle.std.specs.Prelude.{int_lt, slice_get, unwrap_or}
-use Rattle.std.specs.List.{sum_by}
-use Rattle.std.proofs.lemmas.List.{length-drop}
-use Rattle.std.proofs.lemmas.List.Sums.{sum_by-cons}
-use Rattle.stx_scenario.specs.declared.numbers.ClassNo.{ClassNo}
+-- How many notes the scripts of all clients read together: at most eight for each unit of weight.
+use Rattle.std.proofs.Common.{◌≡◌, ℕ, zero, suc, ◌+◌, ◌*◌, ◌<◌, ◌≤◌, List, [], ◌∷◌, length, map, Option, Some, None, refl, sym, ap, ◌∙◌, arith}
+use Rattle.std.specs.Prelude.{slice_get, unwrap_or}
+use Rattle.std.specs.List.{sum_by, AllPass}
+use Rattle.std.specs.Option.{option_and_then}
+use Rattle.std.proofs.lemmas.List.Sums.{sum_by-cons, sum-map}
+use Rattle.std.proofs.lemmas.Option.{slice_get_within}
 use Rattle.stx_scenario.specs.declared.numbers.MethodNo.{MethodNo}
-use Rattle.stx_scenario.specs.declared.numbers.RowNo.{RowNo}
-use Rattle.stx_scenario.specs.declared.classes.TheConstants.{ILLEGAL_STATE_EXCEPTION, ARITHMETIC_EXCEPTION, CANNOT_ACQUIRE_LOCK_EXCEPTION}
 use Rattle.stx_scenario.specs.declared.scenario.Scenario.{Scenario}
-use Rattle.stx_scenario.specs.declared.scenario.Stmt.{Stmt}
-use Rattle.stx_scenario.specs.declared.scenario.Propagation.{Propagation}
-use Rattle.stx_scenario.specs.declared.scenario.TxAttr.{TxAttr}
-use Rattle.stx_base.specs.declared.call.Want.{Want}
-use Rattle.stx_base.specs.declared.history.Access.{Access}
-use Rattle.stx_base.specs.declared.history.Answer.{Answer}
+use Rattle.stx_scenario.specs.declared.scenario.Method.{Method}
+use Rattle.stx_base.specs.declared.cost.Cost.{Cost}
 use Rattle.stx_base.specs.declared.history.PoolNote.{PoolNote}
 use Rattle.stx_base.specs.declared.history.StoreNote.{StoreNote}
-use Rattle.stx_base.specs.declared.line.Line.{Line}
-use Rattle.stx_base.specs.declared.manager.Kind.{Kind}
-use Rattle.stx_base.specs.declared.manager.Ending.{Ending}
-use Rattle.stx_base.specs.Attributes.{attribute}
-use Rattle.stx_model.specs.Contexts.{Live, bare}
-use Rattle.stx_model.specs.Flat.{call_weight, calls_weight, flat_weight}
+use Rattle.stx_base.specs.Attributes.{method_attribute}
 use Rattle.stx_base.specs.Histories.{sum_below}
+use Rattle.stx_base.specs.Weight.{InRange, HasNoCycle, body_in, body_of, leads, cost, total, client_weight, weight}
+use Rattle.stx_base.proofs.WeightLaws.{acyclic_from, cost_is}
+use Rattle.stx_model.specs.Built.{IsBuilt}
 use Rattle.stx_model.specs.Laws.{ReadsWithin}
-use Rattle.stx_base.specs.Notes.{is_answer}
-use Rattle.stx_base.specs.declared.history.Note.{Note}
-use Rattle.stx_model.specs.Meanings.{State, Result, Over, Stops, Breaks, state_of, at_first, Meaning, and_then, finally, say, with_context, unread, hear, answered, ask, on_take, on_begin, on_access}
+use Rattle.stx_model.specs.Meanings.{state_of}
 use Rattle.stx_model.specs.Reads.{count_unread, notes_read}
-use Rattle.stx_base.specs.Weight.{body_of}
-use Rattle.stx_model.specs.Script.{throws, unless_busy, access_row, nothing_more, value_of, is_value, needed, added, statement_in, statement_with, statement, body, leaves, gives_back, ending_call, completes, ending_after, ruled, ends_scope, owns_fresh, fresh_context, opened, begins, fresh, opening_of, intercepted, invoke, tops, calls_of, script}
+use Rattle.stx_model.specs.Script.{script, calls_of}
+use Rattle.stx_model.proofs.FlatTransfer.{Kinds, There as Here, Past as Gone, kind_of, body_built}
+use Rattle.stx_model.proofs.FlatWeight.{size_is, size_within, statements_built}
+use Rattle.stx_model.proofs.ScriptCosts.{IsCosted, There, Past, statements_size, script_costs}
 
--- it reads at most so many notes
-abbrev pub Reads : ℕ → Meaning → Type 0
-Reads n meaning = (st : State) → count_unread st ≤ n + count_unread (state_of (meaning st))
+-- ---- what methods cost
 
--- ---- joining pieces
-
-nothing_read : (n : ℕ) (st : State) → count_unread st ≤ n + count_unread st
-nothing_read n st = omega arith
-
-reads_more : (n m : ℕ) (meaning : Meaning) → n ≤ m → Reads n meaning → Reads m meaning
-reads_more n m meaning le reads st = let h : count_unread st ≤ n + count_unread (state_of (meaning st)) = reads st in omega arith
-
-finally_reads : (r : Result) (next : Option ClassNo → Meaning) (k n m : ℕ) → k ≤ n + count_unread (state_of r) → ((x : Option ClassNo) → Reads m (next x))
-    → k ≤ n + m + count_unread (state_of (finally r next))
-finally_reads (Over x st) next k n m first then = let later : count_unread st ≤ m + count_unread (state_of (next x st)) = then x st in omega arith
-finally_reads (Stops w st) next k n m first then = omega arith
-finally_reads (Breaks st) next k n m first then = omega arith
-
-and_then_reads : (r : Result) (next : Meaning) (k n m : ℕ) → k ≤ n + count_unread (state_of r) → Reads m next → k ≤ n + m + count_unread (state_of (and_then r next))
-and_then_reads (Over None st) next k n m first then = let later : count_unread st ≤ m + count_unread (state_of (next st)) = then st in omega arith
-and_then_reads (Over (Some x) st) next k n m first then = omega arith
-and_then_reads (Stops w st) next k n m first then = omega arith
-and_then_reads (Breaks st) next k n m first then = omega arith
-
-hear_reads : (n : Note) (st : State) → count_unread st ≤ 1 + count_unread (hear n st)
-hear_reads (Note.Pool n) st = omega (arith, length-drop 1 st.pool)
-hear_reads (Note.Store n) st = omega (arith, length-drop 1 st.store)
-
-either_reads : (k n : ℕ) (b : Bool) (first second : Result) → k ≤ n + count_unread (state_of first) → k ≤ n + count_unread (state_of second)
-    → k ≤ n + count_unread (state_of (elim b [ true ↦ first | false ↦ second ]))
-either_reads k n true first second h i = h
-either_reads k n false first second h i = i
-
-ask_reads : (w : Want) (next : Note → Meaning) (k : ℕ) → ((n : Note) → Reads k (next n)) → Reads (1 + k) (ask w next)
-unfolding ask
-ask_reads w next k reads st = by_note (unread w st)
+-- where no method leads to itself, a cost is what the statements make it
+costed : (S : Scenario) → InRange S → HasNoCycle (leads S) (length S.methods) → (m : MethodNo) → IsCosted S (cost S) m
+costed S range acyclic m = by (slice_get S.methods m.0) refl
   where
-    heard_reads : (n : Note) → count_unread st ≤ 1 + k + count_unread (state_of (next n (hear n st)))
-    heard_reads n =
-        let one : count_unread st ≤ 1 + count_unread (hear n st) = hear_reads n st in
-        let later : count_unread (hear n st) ≤ k + count_unread (state_of (next n (hear n st))) = reads n (hear n st) in
-        omega arith
+    by : (o : Option Method) → slice_get S.methods m.0 ≡ o → IsCosted S (cost S) m
+    by None past = Past (ap body_in past) (ap (option_and_then (method_attribute S)) past)
+    by (Some method) there =
+        let is = cost_is S m (acyclic_from S range acyclic) (slice_get_within S.methods m.0 method there) in
+        There (omega (arith, ap (λ (c : Cost). c.size) is))
 
-    by_note : (n : Option Note) → count_unread st ≤ 1 + k + count_unread (state_of (answered w next st n))
-    by_note None = nothing_read (1 + k) st
-    by_note (Some n) = either_reads (count_unread st) (1 + k) (is_answer w n) (next n (hear n st)) (Breaks st) (heard_reads n) (nothing_read (1 + k) st)
-
--- ---- rows
-
-throws_reads : (n : ℕ) (x : ClassNo) → Reads n (throws x)
-throws_reads n x st = nothing_read n st
-
-unless_busy_reads : (n : ℕ) (next : Answer → Meaning) → ((r : Answer) → Reads n (next r)) → (r : Answer) → Reads n (unless_busy next r)
-unless_busy_reads n next reads (Answer.Busy t) st = throws_reads n CANNOT_ACQUIRE_LOCK_EXCEPTION st
-unless_busy_reads n next reads (Answer.Found v) st = reads (Answer.Found v) st
-unless_busy_reads n next reads Answer.Absent st = reads Answer.Absent st
-unless_busy_reads n next reads Answer.Done st = reads Answer.Done st
-
-on_access_reads : (k : ℕ) (next : Answer → Meaning) → ((r : Answer) → Reads k (next r)) → (n : Note) → Reads k (on_access next n)
-on_access_reads k next reads (Note.Store (StoreNote.Access t a r)) st = reads r st
-on_access_reads k next reads (Note.Store (StoreNote.Auto a r)) st = reads r st
-on_access_reads k next reads (Note.Store _) st = nothing_read k st
-on_access_reads k next reads (Note.Pool n) st = nothing_read k st
-
-access_reads : (n t : ℕ) (a : Access) (next : Answer → Meaning) → ((r : Answer) → Reads n (next r)) → Reads (1 + n) (access_row t a next)
-access_reads n t a next reads =
-    ask_reads (Want.Access t a) (on_access (unless_busy next)) n (on_access_reads n (unless_busy next) (unless_busy_reads n next reads))
-
-nothing_more_reads : (n : ℕ) (r : Answer) → Reads n (nothing_more r)
-nothing_more_reads n r st = nothing_read n st
-
-needed_reads : (k : ℕ) (n : ℤ) (r : Answer) → Reads k (needed n r)
-needed_reads k n r st =
-    either_reads (count_unread st) k (int_lt (value_of r) n) (throws ILLEGAL_STATE_EXCEPTION st) (Over None st) (throws_reads k ILLEGAL_STATE_EXCEPTION st) (nothing_read k st)
-
-added_reads : (t : ℕ) (k : RowNo) (n : ℤ) (r : Answer) → Reads 1 (added t k n r)
-added_reads t k n r st =
-    either_reads (count_unread st) 1 (is_value (value_of r +ℤ n)) (access_row t (Access.Write k (value_of r +ℤ n)) nothing_more st) (throws ARITHMETIC_EXCEPTION st)
-    (access_reads 0 t (Access.Write k (value_of r +ℤ n)) nothing_more (nothing_more_reads 0) st) (throws_reads 1 ARITHMETIC_EXCEPTION st)
-
--- a statement makes at most two accesses
-statement_in_reads : (t : ℕ) (s : Stmt) → Reads 2 (statement_in t s)
-statement_in_reads t (Stmt.Read k) = access_reads 1 t (Access.Read k) nothing_more (nothing_more_reads 1)
-statement_in_reads t (Stmt.Write k v) = access_reads 1 t (Access.Write k v) nothing_more (nothing_more_reads 1)
-statement_in_reads t (Stmt.Erase k) = access_reads 1 t (Access.Erase k) nothing_more (nothing_more_reads 1)
-statement_in_reads t (Stmt.Need k n) = access_reads 1 t (Access.Read k) (needed n) (needed_reads 1 n)
-statement_in_reads t (Stmt.Add k n) = access_reads 1 t (Access.Read k) (added t k n) (added_reads t k n)
-statement_in_reads t (Stmt.Throw x) = throws_reads 2 x
-statement_in_reads t _ = nothing_read 2
-
-statement_reads : (s : Stmt) → Reads 2 (statement s)
-unfolding statement
-statement_reads s st = by_context st.context.tx
+-- where the forms are built it is one and one for each statement
+pub costed_built : (S : Scenario) → IsBuilt S → (m : MethodNo) → IsCosted S (cost S) m
+costed_built S built m = by (kind_of S built m)
   where
-    by_context : (o : Option Live) → count_unread st ≤ 2 + count_unread (state_of (statement_with o s st))
-    by_context None = nothing_read 2 st
-    by_context (Some live) = statement_in_reads live.transaction s st
-
-body_reads : (ss : List Stmt) → Reads (2 * length ss) (body ss)
-unfolding body
-body_reads [] st = omega arith
-body_reads (s ∷ ss) st =
-    let both : count_unread st ≤ 2 + 2 * length ss + count_unread (state_of (and_then (statement s st) (body ss))) =
-    and_then_reads (statement s st) (body ss) (count_unread st) 2 (2 * length ss) (statement_reads s st) (body_reads ss) in
-    omega arith
-
--- ---- scopes and calls
-
-gives_back_reads : (m : MethodNo) (c : ℕ) (x : Option ClassNo) → Reads 1 (gives_back m c x)
-unfolding gives_back
-gives_back_reads m c x = ask_reads (Want.Give c) (λ _ given. leaves m x (with_context bare given)) 0 (λ n st. nothing_read 0 st)
-
-completes_reads : (m : MethodNo) (c t : ℕ) (e : Ending) (x : Option ClassNo) → Reads 2 (completes m c t e x)
-unfolding completes
-completes_reads m c t e x = ask_reads (ending_call t e) (λ _. gives_back m c x) 1 (λ n. gives_back_reads m c x)
-
-ends_reads : (S : Scenario) (m : MethodNo) (a : TxAttr) (c t : ℕ) (x : Option ClassNo) → Reads 2 (ends_scope S m a c t x)
-ends_reads S m a c t None st = completes_reads m c t Ending.Commit None (say (Line.End Ending.Commit) st)
-ends_reads S m a c t (Some x) st =
-    completes_reads m c t (ending_after S a.rules (Some x)) (Some x) (say (Line.End (ending_after S a.rules (Some x))) (ruled S a.rules (Some x) st))
-
-opened_reads : (S : Scenario) (m : MethodNo) (a : TxAttr) (c t : ℕ) → Reads (2 * length (body_of S m) + 2) (opened S m a c t)
-unfolding opened
-opened_reads S m a c t st =
-    let owns = owns_fresh S.settings.mode in
-    let open_state = say (Line.Opened Kind.Fresh owns) (with_context (fresh_context c t a.read_only owns) st) in
-    finally_reads (body (body_of S m) open_state) (ends_scope S m a c t) (count_unread st) (2 * length (body_of S m)) 2 (body_reads (body_of S m) open_state) (ends_reads S m a c t)
-
-on_begin_reads : (k : ℕ) (next : ℕ → Meaning) → ((t : ℕ) → Reads k (next t)) → (n : Note) → Reads k (on_begin next n)
-on_begin_reads k next reads (Note.Store (StoreNote.Begin t)) st = reads t st
-on_begin_reads k next reads (Note.Store _) st = nothing_read k st
-on_begin_reads k next reads (Note.Pool n) st = nothing_read k st
-
-on_take_reads : (k : ℕ) (next : Option ℕ → Meaning) → ((c : Option ℕ) → Reads k (next c)) → (n : Note) → Reads k (on_take next n)
-on_take_reads k next reads (Note.Pool (PoolNote.Taken c)) st = reads (Some c) st
-on_take_reads k next reads (Note.Pool PoolNote.Empty) st = reads None st
-on_take_reads k next reads (Note.Pool (PoolNote.Given c)) st = nothing_read k st
-on_take_reads k next reads (Note.Store n) st = nothing_read k st
-
-begins_reads : (S : Scenario) (m : MethodNo) (a : TxAttr) (c : Option ℕ) → Reads (1 + (2 * length (body_of S m) + 2)) (begins S m a c)
-unfolding begins
-begins_reads S m a (Some c) st =
-    ask_reads Want.Begin (on_begin (λ t. opened S m a c t)) (2 * length (body_of S m) + 2) (on_begin_reads (2 * length (body_of S m) + 2) (λ t. opened S m a c t) (λ t. opened_reads S m a c t)) st
-begins_reads S m a None st = nothing_read (1 + (2 * length (body_of S m) + 2)) st
-
-fresh_reads : (S : Scenario) (m : MethodNo) (a : TxAttr) → Reads (1 + (1 + (2 * length (body_of S m) + 2))) (fresh S m a)
-unfolding fresh
-fresh_reads S m a =
-    ask_reads Want.Take (on_take (begins S m a)) (1 + (2 * length (body_of S m) + 2)) (on_take_reads (1 + (2 * length (body_of S m) + 2)) (begins S m a) (begins_reads S m a))
-
--- a call takes, begins, ends and gives, and makes at most two accesses for each statement
-opening_reads : (S : Scenario) (m : MethodNo) (a : TxAttr) (p : Propagation) → Reads (8 * call_weight S m) (opening_of S m a p)
-opening_reads S m a Propagation.Required = reads_more (1 + (1 + (2 * length (body_of S m) + 2))) (8 * call_weight S m) (fresh S m a) (omega arith) (fresh_reads S m a)
-opening_reads S m a _ = nothing_read (8 * call_weight S m)
-
-invoke_reads : (S : Scenario) (m : MethodNo) → Reads (8 * call_weight S m) (invoke S m)
-unfolding invoke
-invoke_reads S m st = by_attribute (attribute S m)
-  where
-    by_attribute : (a : Option TxAttr) → count_unread st ≤ 8 * call_weight S m + count_unread (state_of (intercepted S m a st))
-    by_attribute None = nothing_read (8 * call_weight S m) st
-    by_attribute (Some a) = opening_reads S m a a.propagation (say (Line.Call m a.propagation a.read_only) st)
-
-tops_reads : (S : Scenario) (k : ℕ) (calls : List MethodNo) → Reads (8 * calls_weight S calls) (tops S k calls)
-unfolding tops
-tops_reads S k [] st = omega arith
-tops_reads S k (m ∷ calls) st =
-    let both : count_unread st ≤ 8 * call_weight S m + 8 * calls_weight S calls + count_unread (state_of (finally (invoke S m (say (Line.Top k) st)) (λ _. tops S (k + 1) calls))) =
-    finally_reads (invoke S m (say (Line.Top k) st)) (λ _. tops S (k + 1) calls) (count_unread st) (8 * call_weight S m) (8 * calls_weight S calls)
-    (invoke_reads S m (say (Line.Top k) st)) (λ _. tops_reads S (k + 1) calls) in
-    let sum : calls_weight S (m ∷ calls) ≡ call_weight S m + calls_weight S calls = sum_by-cons (call_weight S) m calls in
-    omega arith
+    by : Kinds S m → IsCosted S (cost S) m
+    by (Here below a is required) = There (omega (arith, size_is S built m below, statements_built S (cost S) (body_of S m) (body_built S built m)))
+    by (Gone none nothing) = Past nothing none
 
 -- ---- scripts
 
 -- the script of one client reads at most eight notes for each unit of its calls' weight
-pub script_reads : (S : Scenario) (c : ℕ) (pool : List PoolNote) (store : List StoreNote) → notes_read S c pool store ≤ 8 * calls_weight S (calls_of S c)
-unfolding script
-script_reads S c pool store =
-    let reads : length pool + length store ≤ 8 * calls_weight S (calls_of S c) + count_unread (state_of (tops S 0 (calls_of S c) (at_first pool store))) =
-    tops_reads S 0 (calls_of S c) (at_first pool store) in
-    omega arith
+pub script_reads : (S : Scenario) → ((m : MethodNo) → IsCosted S (cost S) m) → (c : ℕ) (pool : List PoolNote) (store : List StoreNote)
+    → notes_read S c pool store ≤ 8 * client_weight (cost S) (calls_of S c)
+script_reads S costs c pool store =
+    let reads = script_costs S (cost S) costs c pool store in
+    let once = size_within (total (map (cost S) (calls_of S c))) in
+    omega (arith, reads, once)
+
+-- ---- all clients together
 
 sum_below_first : (n : ℕ) (f : ℕ → ℕ) → sum_below (suc n) f ≡ f 0 + sum_below n (λ i. f (suc i))
 sum_below_first zero f = omega arith
@@ -235,8 +76,9 @@ sum_below_items weight default (x ∷ xs) =
     ∙ sym (sum_by-cons weight x xs)
 
 pub reads_within : ReadsWithin
-reads_within S pool store =
-    let each : sum_below (length S.clients) (λ c. notes_read S c (pool c) (store c)) ≤ 8 * sum_below (length S.clients) (λ c. calls_weight S (calls_of S c)) =
-    sum_below_within (length S.clients) 8 (λ c. notes_read S c (pool c) (store c)) (λ c. calls_weight S (calls_of S c)) (λ c. script_reads S c (pool c) (store c)) in
-    let all : sum_below (length S.clients) (λ c. calls_weight S (calls_of S c)) ≡ flat_weight S = sum_below_items (calls_weight S) [] S.clients in
+reads_within S range acyclic pool store =
+    let of : List MethodNo → ℕ = client_weight (cost S) in
+    let each : sum_below (length S.clients) (λ c. notes_read S c (pool c) (store c)) ≤ 8 * sum_below (length S.clients) (λ c. of (calls_of S c)) =
+    sum_below_within (length S.clients) 8 (λ c. notes_read S c (pool c) (store c)) (λ c. of (calls_of S c)) (λ c. script_reads S (costed S range acyclic) c (pool c) (store c)) in
+    let all : sum_below (length S.clients) (λ c. of (calls_of S c)) ≡ weight S = sum_below_items of [] S.clients ∙ sym (sum-map of S.clients) in
     omega arith

@@ -9,7 +9,7 @@ use Rattle.stx_base.specs.declared.history.StoreNote.{StoreNote}
 use Rattle.stx_base.specs.declared.history.StoreEntry.{StoreEntry}
 use Rattle.stx_model.specs.Faithful.{Faithful, IsBalanced, connection_bracket, transaction_bracket}
 use Rattle.stx_model.specs.Played.{Turns, want_so_far, outcome_of}
-use Rattle.stx_model.specs.Flat.{flat_weight}
+use Rattle.stx_model.specs.Built.{IsBuilt}
 use Rattle.stx_base.specs.Limits.{most_weight, notes_a_unit}
 use Rattle.stx_base.specs.Histories.{pool_notes_of, store_notes_of, sum_below}
 use Rattle.stx_base.specs.Legal.{PoolLegal, StoreLegal}
@@ -19,22 +19,25 @@ use Rattle.stx_model.specs.Reads.{IsEndOf, ReadsAll, notes_read, TakesFresh, Beg
 use Rattle.stx_model.specs.Script.{script}
 use Rattle.stx_base.specs.Serial.{Serial}
 use Rattle.stx_base.specs.Stores.{live, store_facts}
+use Rattle.stx_base.specs.Weight.{InRange, HasNoCycle, leads, weight}
 
 -- a legal history of the store is serial
 abbrev pub JournalIsSerial : Type 0
 JournalIsSerial = (clients : ℕ) (facts : StoreFacts) (history : List StoreEntry) → StoreLegal clients facts history → Serial facts history
 
--- over any notes, the scripts of all clients together read at most eight notes for each unit of weight
+-- where no method leads to itself: over any notes, the scripts of all clients together read at most eight notes for each
+-- unit of weight
 abbrev pub ReadsWithin : Type 0
-ReadsWithin = (S : Scenario) (pool : ℕ → List PoolNote) (store : ℕ → List StoreNote)
-    → sum_below (length S.clients) (λ c. notes_read S c (pool c) (store c)) ≤ notes_a_unit * flat_weight S
+ReadsWithin = (S : Scenario) → InRange S → HasNoCycle (leads S) (length S.methods) → (pool : ℕ → List PoolNote) (store : ℕ → List StoreNote)
+    → sum_below (length S.clients) (λ c. notes_read S c (pool c) (store c)) ≤ notes_a_unit * weight S
 
--- legal histories whose notes the clients' scripts have all read have at most eight entries for each unit of weight
+-- where no method leads to itself: legal histories whose notes the clients' scripts have all read have at most eight
+-- entries for each unit of weight
 abbrev pub EntriesWithin : Type 0
-EntriesWithin = (S : Scenario) (pool : List PoolEntry) (store : List StoreEntry)
+EntriesWithin = (S : Scenario) → InRange S → HasNoCycle (leads S) (length S.methods) → (pool : List PoolEntry) (store : List StoreEntry)
     → PoolLegal (length S.clients) S.settings.pool pool → StoreLegal (length S.clients) (store_facts S) store
     → ((c : ℕ) → c < length S.clients → ReadsAll S c (pool_notes_of pool c) (store_notes_of store c))
-    → length pool + length store ≤ notes_a_unit * flat_weight S
+    → length pool + length store ≤ notes_a_unit * weight S
 
 -- what a script leaves unread is the end of the notes it was given, whatever its own end
 abbrev pub ReadsInOrder : Type 0
@@ -47,27 +50,30 @@ OwnNotesFresh = (clients client : ℕ)
     → ((size : ℕ) (history : List PoolEntry) → PoolLegal clients size history → TakesFresh (pool_notes_of history client))
     × ((facts : StoreFacts) (history : List StoreEntry) → StoreLegal clients facts history → BeginsFresh (store_notes_of history client))
 
--- in a scenario that isn't too heavy, where a script wants a call and leaves no note unread, the call is proper after them
+-- where the forms are built and the scenario isn't too heavy: where a script wants a call and leaves no note unread, the
+-- call is proper after them
 abbrev pub WantsProper : Type 0
-WantsProper = (S : Scenario) → flat_weight S ≤ most_weight
+WantsProper = (S : Scenario) → IsBuilt S → weight S ≤ most_weight
     → (c : ℕ) (pool : List PoolNote) (store : List StoreNote) (want : Want) (end : State)
     → script S c pool store ≡ Stops want end → end.pool ≡ [] → end.store ≡ [] → IsProperAfter pool store want
 
--- in the lines of a script that is done, takes and gives are brackets, and so are the begins and the ends of
--- transactions; all are closed where a top-level call begins
+-- where the forms are built: in the lines of a script that is done, takes and gives are brackets, and so are the begins
+-- and the ends of transactions; all are closed where a top-level call begins
 abbrev pub Balanced : Type 0
-Balanced = (S : Scenario) (c : ℕ) (pool : List PoolNote) (store : List StoreNote) (end : State)
+Balanced = (S : Scenario) → IsBuilt S → (c : ℕ) (pool : List PoolNote) (store : List StoreNote) (end : State)
     → script S c pool store ≡ Stops Want.Done end → IsBalanced (map connection_bracket end.lines) × IsBalanced (map transaction_bracket end.lines)
 
--- a script that is done and leaves no note unread has given back what it took and ended what it began
+-- where the forms are built: a script that is done and leaves no note unread has given back what it took and ended what
+-- it began
 abbrev pub GivesAllBack : Type 0
-GivesAllBack = (S : Scenario) (c : ℕ) (pool : List PoolNote) (store : List StoreNote) (end : State)
+GivesAllBack = (S : Scenario) → IsBuilt S → (c : ℕ) (pool : List PoolNote) (store : List StoreNote) (end : State)
     → script S c pool store ≡ Stops Want.Done end → end.pool ≡ [] → end.store ≡ []
     → (TakesFresh pool → out pool ≡ []) × (BeginsFresh store → live store ≡ [])
 
--- what a play leaves is a faithful run, where the histories are legal, each script has read all of its notes, and each is done
+-- where the forms are built: what a play leaves is a faithful run, where the histories are legal, each script has read
+-- all of its notes, and each is done
 abbrev pub DoneIsFaithful : Type 0
-DoneIsFaithful = (S : Scenario) (so_far : Turns)
+DoneIsFaithful = (S : Scenario) → IsBuilt S → (so_far : Turns)
     → PoolLegal (length S.clients) S.settings.pool so_far.pool → StoreLegal (length S.clients) (store_facts S) so_far.store
     → ((c : ℕ) → c < length S.clients → ReadsAll S c (pool_notes_of so_far.pool c) (store_notes_of so_far.store c))
     → ((c : ℕ) → c < length S.clients → want_so_far S so_far c ≡ Some Want.Done)

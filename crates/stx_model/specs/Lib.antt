@@ -1,8 +1,16 @@
+pub mod Orders
 pub mod Contexts
+pub mod Opening
+pub mod Ending
+pub mod Listeners
 pub mod Meanings
+pub mod Statements
+pub mod Rounds
+pub mod Scopes
 pub mod Script
-pub mod Flat
+pub mod Built
 pub mod Played
 pub mod Faithful
 pub mod Reads
 pub mod Laws
+pub mod Assurances

@@ -14,17 +14,18 @@ use Rattle.stx_model.specs.Contexts.{Context, bare}
 
 -- ---- states and results
 
--- the lines so far, the context, whether a `mark` took effect in this body, and the notes that aren't read yet
+-- the lines so far, the context, the local mark of the nearest scope that is open (none where no scope is), and the notes
+-- that aren't read yet
 pub record State : Type 0 where
   pub lines : List Line
   pub context : Context
-  pub marked : Bool
+  pub local : Option Bool
   pub pool : List PoolNote
   pub store : List StoreNote
 
 -- nothing said, nothing carried, all notes unread
 abbrev pub at_first : List PoolNote → List StoreNote → State
-at_first pool store = record { lines = []; context = bare; marked = false; pool = pool; store = store }
+at_first pool store = record { lines = []; context = bare; local = None; pool = pool; store = store }
 
 -- Over None is the normal end and Over (Some x) a throw of class x; it stops at a call whose answer isn't there yet,
 -- and breaks at a note that doesn't answer the call; a script is done where it stops at Done
@@ -63,10 +64,13 @@ finally (Breaks st) next = Breaks st
 
 -- adds a line
 abbrev pub say : Line → State → State
-say line st = record { lines = st.lines ++ line ∷ []; context = st.context; marked = st.marked; pool = st.pool; store = st.store }
+say line st = record { lines = st.lines ++ line ∷ []; context = st.context; local = st.local; pool = st.pool; store = st.store }
 
 abbrev pub with_context : Context → State → State
-with_context context st = record { lines = st.lines; context = context; marked = st.marked; pool = st.pool; store = st.store }
+with_context context st = record { lines = st.lines; context = context; local = st.local; pool = st.pool; store = st.store }
+
+abbrev pub with_local : Option Bool → State → State
+with_local local st = record { lines = st.lines; context = st.context; local = local; pool = st.pool; store = st.store }
 
 -- ---- asking
 
@@ -79,9 +83,9 @@ unread _ st = option_map Note.Store (slice_get st.store 0)
 -- the note is read: it isn't unread any more, and its line is added
 abbrev pub hear : Note → State → State
 hear (Note.Pool n) st =
-    record { lines = st.lines ++ note_line (Note.Pool n) ∷ []; context = st.context; marked = st.marked; pool = drop 1 st.pool; store = st.store }
+    record { lines = st.lines ++ note_line (Note.Pool n) ∷ []; context = st.context; local = st.local; pool = drop 1 st.pool; store = st.store }
 hear (Note.Store n) st =
-    record { lines = st.lines ++ note_line (Note.Store n) ∷ []; context = st.context; marked = st.marked; pool = st.pool; store = drop 1 st.store }
+    record { lines = st.lines ++ note_line (Note.Store n) ∷ []; context = st.context; local = st.local; pool = st.pool; store = drop 1 st.store }
 
 abbrev pub heard : Want → (Note → Meaning) → State → Note → Result
 heard w next st n = elim (is_answer w n) [ true ↦ next n (hear n st) | false ↦ Breaks st ]

@@ -13,9 +13,9 @@ use Rattle.stx_base.specs.Limits.{notes_a_unit}
 use Rattle.stx_base.specs.Histories.{pool_notes_of, store_notes_of}
 use Rattle.stx_base.specs.Pools.{pool_reply}
 use Rattle.stx_base.specs.Stores.{store_reply, store_facts}
+use Rattle.stx_base.specs.Weight.{weight}
 use Rattle.stx_model.specs.Meanings.{Result, state_of, stop_of}
 use Rattle.stx_model.specs.Script.{script}
-use Rattle.stx_model.specs.Flat.{flat_weight}
 
 -- the histories so far
 pub record Turns : Type 0 where
@@ -59,7 +59,7 @@ turns S c (suc n) so_far = turns S c n (turn S so_far c)
 
 -- the most shared calls that all clients together make
 abbrev pub most_calls : Scenario → ℕ
-most_calls S = notes_a_unit * flat_weight S
+most_calls S = notes_a_unit * weight S
 
 -- a client to its end: a turn of a client that is done does nothing
 abbrev pub run_out : Scenario → Turns → ℕ → Turns

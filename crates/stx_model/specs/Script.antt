@@ -1,178 +1,78 @@
 -- The script: what a client's calls denote, given what its own shared calls were answered.
--- Built so far: calls of methods whose attribute has propagation required, and in their bodies the statements on rows
--- and `throw`. A client's call meets the bare context, so each opens a fresh scope that suspends nothing; nothing
--- registers, so no round has a line; and nothing marks. Every other form breaks.
--- (Spring: TransactionAspectSupport.invokeWithinTransaction, AbstractPlatformTransactionManager.)
-use Rattle.std.specs.Prelude.{ℕ, ◌+◌, ◌-◌, ◌^◌, Bool, true, false, ◌&&◌, ℤ, pos, negsuc, ◌+ℤ◌, int_lt, int_le, List, [], ◌∷◌, Option, Some, None, slice_get, unwrap_or}
-use Rattle.stx_scenario.specs.declared.numbers.ClassNo.{ClassNo}
+-- How a method is called inside another is a parameter, `calls`, and is closed once, by the ranks of methods, at the end.
+-- (Spring: the reference's 'Declarative Transaction Management'; TransactionalApplicationListenerMethodAdapter.)
+use Rattle.std.specs.Prelude.{ℕ, zero, suc, ◌+◌, ◌-◌, true, false, ◌==◌, List, [], ◌∷◌, Option, Some, None, slice_get, unwrap_or}
 use Rattle.stx_scenario.specs.declared.numbers.MethodNo.{MethodNo}
-use Rattle.stx_scenario.specs.declared.numbers.RowNo.{RowNo}
-use Rattle.stx_scenario.specs.declared.classes.TheConstants.{ILLEGAL_STATE_EXCEPTION, ARITHMETIC_EXCEPTION, CANNOT_CREATE_TRANSACTION_EXCEPTION, CANNOT_ACQUIRE_LOCK_EXCEPTION}
+use Rattle.stx_scenario.specs.declared.numbers.EventNo.{EventNo}
 use Rattle.stx_scenario.specs.declared.scenario.Scenario.{Scenario}
 use Rattle.stx_scenario.specs.declared.scenario.Stmt.{Stmt}
-use Rattle.stx_scenario.specs.declared.scenario.SyncMode.{SyncMode}
-use Rattle.stx_scenario.specs.declared.scenario.Propagation.{Propagation}
-use Rattle.stx_scenario.specs.declared.scenario.Rule.{Rule}
 use Rattle.stx_scenario.specs.declared.scenario.TxAttr.{TxAttr}
 use Rattle.stx_base.specs.declared.call.Want.{Want}
-use Rattle.stx_base.specs.declared.history.Access.{Access}
-use Rattle.stx_base.specs.declared.history.Answer.{Answer}
 use Rattle.stx_base.specs.declared.history.PoolNote.{PoolNote}
 use Rattle.stx_base.specs.declared.history.StoreNote.{StoreNote}
 use Rattle.stx_base.specs.declared.line.Line.{Line}
-use Rattle.stx_base.specs.declared.manager.Kind.{Kind}
-use Rattle.stx_base.specs.declared.manager.Ending.{Ending}
 use Rattle.stx_base.specs.Attributes.{attribute}
-use Rattle.stx_base.specs.Rules.{winner, rolls_back}
-use Rattle.stx_base.specs.Weight.{body_of}
-use Rattle.stx_model.specs.Contexts.{Context, Live, Registration, bare}
-use Rattle.stx_model.specs.Meanings.{State, at_first, Result, Over, Stops, Breaks, Meaning, and_then, finally, say, with_context, ask, on_take, on_begin, on_access}
+use Rattle.stx_base.specs.Weight.{body_of, rank}
+use Rattle.stx_model.specs.Contexts.{is_active, is_live}
+use Rattle.stx_model.specs.Listeners.{Deed, Register, RunNow, Skip, deeds}
+use Rattle.stx_model.specs.Meanings.{at_first, Result, Over, Stops, Breaks, Meaning, and_then, finally, say}
+use Rattle.stx_model.specs.Statements.{throws, caught, marks, register_sync, register_listener}
+use Rattle.stx_model.specs.Rounds.{Calls, callback_statement, listens, Proxied, Direct}
+use Rattle.stx_model.specs.Scopes.{leaves, opens, intercepted}
 
--- ---- throwing
+module _ (S : Scenario) (calls : Calls) where
+  -- ---- bodies
 
--- an exception arises
-abbrev pub throws : ClassNo → Meaning
-throws x st = Over (Some x) (say (Line.Throw x) st)
+  -- the listeners of a publication, one after the other, up to the first that throws
+  unfoldable pub deals : List Deed → Meaning
+  deals [] st = Over None st
+  deals (Register l ∷ later) st = and_then (register_listener S l st) (deals later)
+  deals (RunNow l ∷ later) st = and_then (listens S calls l (slice_get S.listeners l.0) st) (deals later)
+  deals (Skip l ∷ later) st = deals later (say (Line.Skip l) st)
 
--- ---- statements on rows, inside a transaction
+  abbrev pub publishes : EventNo → Meaning
+  publishes e st = deals (deeds S e (is_active st.context) (is_live st.context)) (say (Line.Publish e) st)
 
--- a busy row is refused at once (CannotAcquireLockException)
-abbrev pub unless_busy : (Answer → Meaning) → Answer → Meaning
-unless_busy next (Answer.Busy t) st = throws CANNOT_ACQUIRE_LOCK_EXCEPTION st
-unless_busy next answer st = next answer st
+  -- a statement of a method
+  unfoldable pub statement : Stmt → Meaning
+  statement Stmt.Mark st = marks st.local st
+  statement (Stmt.Register s) st = register_sync S s st
+  statement (Stmt.Publish e) st = publishes e st
+  statement (Stmt.This m catch) st = finally (calls Direct m st) (caught S catch)
+  statement s st = callback_statement S calls s st
 
--- one access of the live transaction, and then what the statement does with its answer
-abbrev pub access_row : ℕ → Access → (Answer → Meaning) → Meaning
-access_row t a next st = ask (Want.Access t a) (on_access (unless_busy next)) st
+  -- the statements in order, up to the first that throws
+  unfoldable pub body : List Stmt → Meaning
+  body [] st = Over None st
+  body (s ∷ statements) st = and_then (statement s st) (body statements)
 
--- a read, a write and an erase do nothing more
-abbrev pub nothing_more : Answer → Meaning
-nothing_more answer st = Over None st
+  -- ---- calls
 
--- the value that a read found; an absent row counts as 0
-abbrev pub value_of : Answer → ℤ
-value_of (Answer.Found v) = v
-value_of _ = pos 0
+  -- a call that opens no scope: its first line, the body in its caller's context, and its end
+  abbrev pub unscoped : Line → MethodNo → Meaning
+  unscoped line m st = finally (body (body_of S m) (say line st)) (leaves m)
 
--- a value is a signed number of 64 bits
-abbrev pub is_value : ℤ → Bool
-is_value v = int_le (negsuc (2 ^ 63 - 1)) v && int_lt v (pos (2 ^ 63))
+  -- through the proxy a method with an attribute is intercepted
+  abbrev pub proxied : MethodNo → Option TxAttr → Meaning
+  proxied m (Some a) st = intercepted S calls m a (body (body_of S m)) st
+  proxied m None st = unscoped (Line.Plain m) m st
 
--- a need throws where the value found is less
-abbrev pub needed : ℤ → Answer → Meaning
-needed n answer st = elim (int_lt (value_of answer) n) [ true ↦ throws ILLEGAL_STATE_EXCEPTION st | false ↦ Over None st ]
+  -- a call of a method of the same bean never is
+  unfoldable pub invoked : Calls
+  invoked Proxied m st = proxied m (attribute S m) st
+  invoked Direct m st = unscoped (Line.This m) m st
 
--- an add writes the sum, and throws without the write where the sum is no value
-abbrev pub added : ℕ → RowNo → ℤ → Answer → Meaning
-added t k n answer st =
-    elim (is_value (value_of answer +ℤ n)) [
-      | true ↦ access_row t (Access.Write k (value_of answer +ℤ n)) nothing_more st
-      | false ↦ throws ARITHMETIC_EXCEPTION st
-    ]
+-- ---- the whole
 
--- a statement of a body, in a live transaction
-abbrev pub statement_in : ℕ → Stmt → Meaning
-statement_in t (Stmt.Read k) st = access_row t (Access.Read k) nothing_more st
-statement_in t (Stmt.Write k v) st = access_row t (Access.Write k v) nothing_more st
-statement_in t (Stmt.Erase k) st = access_row t (Access.Erase k) nothing_more st
-statement_in t (Stmt.Need k n) st = access_row t (Access.Read k) (needed n) st
-statement_in t (Stmt.Add k n) st = access_row t (Access.Read k) (added t k n) st
-statement_in t (Stmt.Throw x) st = throws x st
-statement_in t _ st = Breaks st
+-- calls of methods whose rank is below a bound; inside a method only those below its own rank are called
+unfoldable pub calls_below : Scenario → ℕ → Calls
+calls_below S zero way m st = Breaks st
+calls_below S (suc bound) way m st =
+    elim (rank S m == bound) [ true ↦ invoked S (calls_below S bound) way m st | false ↦ calls_below S bound way m st ]
 
-abbrev pub statement_with : Option Live → Stmt → Meaning
-statement_with (Some live) s st = statement_in live.transaction s st
-statement_with None s st = Breaks st
-
-unfoldable pub statement : Stmt → Meaning
-statement s st = statement_with st.context.tx s st
-
--- the statements in order, up to the first that throws
-unfoldable pub body : List Stmt → Meaning
-body [] st = Over None st
-body (s ∷ statements) st = and_then (statement s st) (body statements)
-
--- ---- the end of a fresh scope
-
--- how a call ends: normally, or with what was thrown
-abbrev pub leaves : MethodNo → Option ClassNo → Meaning
-leaves m x st = Over x (say (Line.Leave m x) st)
-
--- the connection goes back to the pool, and the context is the older one again (cleanupAfterCompletion)
-unfoldable pub gives_back : MethodNo → ℕ → Option ClassNo → Meaning
-gives_back m c x st = ask (Want.Give c) (λ _ given. leaves m x (with_context bare given)) st
-
--- the store commits or rolls back (processCommit, processRollback)
-abbrev pub ending_call : ℕ → Ending → Want
-ending_call t Ending.Commit = Want.Commit t
-ending_call t _ = Want.Rollback t
-
-unfoldable pub completes : MethodNo → ℕ → ℕ → Ending → Option ClassNo → Meaning
-completes m c t e x st = ask (ending_call t e) (λ _. gives_back m c x) st
-
--- a scope rolls back where its body threw and the rules say so, else it commits
-abbrev pub ending_after : Scenario → List Rule → Option ClassNo → Ending
-ending_after S rules None = Ending.Commit
-ending_after S rules (Some x) = elim (rolls_back S.classes rules x.0) [ true ↦ Ending.Rollback | false ↦ Ending.Commit ]
-
--- where the body threw, what the rules decide, and which of them won (RuleBasedTransactionAttribute.rollbackOn)
-abbrev pub ruled : Scenario → List Rule → Option ClassNo → State → State
-ruled S rules None st = st
-ruled S rules (Some x) st = say (Line.Rules (rolls_back S.classes rules x.0) (winner S.classes rules x.0)) st
-
--- the end of the scope, after its body, by the rules of the method's attribute
-abbrev pub ends_scope : Scenario → MethodNo → TxAttr → ℕ → ℕ → Option ClassNo → Meaning
-ends_scope S m a c t x st =
-    completes m c t (ending_after S a.rules x) x (say (Line.End (ending_after S a.rules x)) (ruled S a.rules x st))
-
--- ---- a fresh scope
-
--- a fresh scope owns synchronisation where the mode isn't never (AbstractPlatformTransactionManager.newTransactionStatus)
-abbrev pub owns_fresh : SyncMode → Bool
-owns_fresh SyncMode.Never = false
-owns_fresh _ = true
-
--- an owner starts with an empty list of registrations
-abbrev pub started_syncs : Bool → Option (List Registration)
-started_syncs true = Some []
-started_syncs false = None
-
-abbrev pub fresh_context : ℕ → ℕ → Bool → Bool → Context
-fresh_context connection transaction read_only owns =
-    record {
-      tx = Some (record { connection = connection; transaction = transaction; read_only = read_only; mark = false });
-      syncs = started_syncs owns;
-    }
-
-unfoldable pub opened : Scenario → MethodNo → TxAttr → ℕ → ℕ → Meaning
-opened S m a c t st =
-    let owns = owns_fresh S.settings.mode in
-    finally (body (body_of S m) (say (Line.Opened Kind.Fresh owns) (with_context (fresh_context c t a.read_only owns) st)))
-    (ends_scope S m a c t)
-
--- begins a transaction on the connection (DataSourceTransactionManager.doBegin); where the pool was empty the call is
--- refused (CannotCreateTransactionException)
-unfoldable pub begins : Scenario → MethodNo → TxAttr → Option ℕ → Meaning
-begins S m a (Some c) st = ask Want.Begin (on_begin (λ t. opened S m a c t)) st
-begins S m a None st =
-    leaves m (Some CANNOT_CREATE_TRANSACTION_EXCEPTION) (say (Line.Throw CANNOT_CREATE_TRANSACTION_EXCEPTION) st)
-
--- takes a connection
-unfoldable pub fresh : Scenario → MethodNo → TxAttr → Meaning
-fresh S m a st = ask Want.Take (on_take (begins S m a)) st
-
--- ---- calls
-
-abbrev pub opening_of : Scenario → MethodNo → TxAttr → Propagation → Meaning
-opening_of S m a Propagation.Required st = fresh S m a st
-opening_of S m a _ st = Breaks st
-
-abbrev pub intercepted : Scenario → MethodNo → Option TxAttr → Meaning
-intercepted S m (Some a) st = opening_of S m a a.propagation (say (Line.Call m a.propagation a.read_only) st)
-intercepted S m None st = Breaks st
-
-unfoldable pub invoke : Scenario → MethodNo → Meaning
-invoke S m st = intercepted S m (attribute S m) st
+-- a client may call every method: ranks are at most 64
+abbrev pub invoke : Scenario → MethodNo → Meaning
+invoke S m st = calls_below S 65 Proxied m st
 
 -- a client's calls from place k on; what one of them throws goes no further
 unfoldable pub tops : Scenario → ℕ → List MethodNo → Meaning

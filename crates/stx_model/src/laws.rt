@@ -1,5 +1,6 @@
 // The laws of the definitions, each carried by the contract of a function that does nothing.
-ghost use Rattle.stx_model.specs.Laws.{Balanced, DoneIsFaithful, EntriesWithin, GivesAllBack, JournalIsSerial, OwnNotesFresh, ReadsInOrder, ReadsWithin, WantsProper};
+ghost use Rattle.stx_model.specs.Laws.{Balanced, DoneIsFaithful, EntriesWithin, GivesAllBack, JournalIsSerial, OwnNotesFresh, ReadsWithin, WantsProper};
+ghost use Rattle.stx_model.specs.Assurances.{AfterCommitComesTooLate, AfterCommitThrowsToTheCaller, CallsLeaveTheContext, JoinedScopesOnlyMark, RequiresNewStandsApart};
 
 /// The store's journal is a serial order. Take any legal history of the store, and run the committed transactions and
 /// the own statements alone, one after the other, in the order of the journal: each finds exactly the answers that it
@@ -8,22 +9,17 @@ pub fn journal_is_serial()
     ensures { JournalIsSerial }
 {}
 
-/// How many notes scripts read. Over any notes, the scripts of all clients together read at most eight for each unit of
-/// the scenario's weight, which is 1 for each call of a client and 1 for each statement of its method.
+/// How many notes scripts read, in a scenario in which no method leads to itself. Over any notes, the scripts of all clients together
+/// read at most eight for each unit of the scenario's weight.
 pub fn reads_within()
     ensures { ReadsWithin }
 {}
 
-/// How long histories grow. Legal histories of the pool and of the store, of which each client's script has read all of
-/// the client's own notes, have together at most eight entries for each unit of the scenario's weight.
+/// How long histories grow, in a scenario in which no method leads to itself. Legal histories of the pool and of the store, of which
+/// each client's script has read all of the client's own notes, have together at most eight entries for each unit of the
+/// scenario's weight.
 pub fn entries_within()
     ensures { EntriesWithin }
-{}
-
-/// In which order scripts read. What a script leaves unread, of the notes of the pool and of those of the store, is the
-/// end of what it was given, whether it is done, waits for an answer or breaks at a note that answers something else.
-pub fn reads_in_order()
-    ensures { ReadsInOrder }
 {}
 
 /// A client's own notes are fresh. In a legal history of the pool no client takes a connection that it has out, and in a
@@ -32,29 +28,66 @@ pub fn own_notes_fresh()
     ensures { OwnNotesFresh }
 {}
 
-/// What scripts ask for. Take a client's own notes, in which no connection is taken that is out and no transaction
-/// number is begun twice. Where its script over them wants a call and leaves no note unread, the call is proper after
-/// them: it gives what it has, names a transaction that lives, and stays within the bounds on a client's calls. A call
-/// on the pool needs only what is said of connections, a call on the store only what is said of transactions.
+/// A joined scope only marks. Between its `end` line and its `leave` line a scope that takes part in the transaction of
+/// another says nothing but that it marks it for rollback, and that only where its ending isn't commit; it throws nothing
+/// of its own, and leaves with what its body threw (`AbstractPlatformTransactionManager.processRollback`,
+/// `setGlobalRollbackOnParticipationFailure`).
+pub fn joined_scopes_only_mark()
+    ensures { JoinedScopesOnlyMark }
+{}
+
+/// `requires_new` stands apart. However a call with this propagation ends, the transaction round it has the mark and the
+/// registrations that it had, and so has the scope round it its local mark, whatever the called methods did.
+pub fn requires_new_stands_apart()
+    ensures { RequiresNewStandsApart }
+{}
+
+/// An exception of an `after_commit` callback comes too late to undo anything. Where the store committed and a callback of
+/// that round throws, what is left of the scope is its `after_completion` round, which is told committed, the give of its
+/// connection and the resumption of what was suspended (`TransactionSynchronization.afterCommit`: the transaction has been
+/// committed already).
+pub fn after_commit_comes_too_late()
+    ensures { AfterCommitComesTooLate }
+{}
+
+/// And the caller sees it: the call leaves with the class that the `after_commit` callback threw.
+pub fn after_commit_throws_to_the_caller()
+    ensures { AfterCommitThrowsToTheCaller }
+{}
+
+/// Calls leave the context as it was. After a call of a method with an attribute, however it ends, the connection, the
+/// transaction, its mark and the registrations are those before it, but that a joined scope may have marked the
+/// transaction, and that a joined scope, a savepoint (also one that went back) and an empty scope that owns no
+/// synchronisation may have added registrations at the end.
+pub fn calls_leave_the_context()
+    ensures { CallsLeaveTheContext }
+{}
+
+/// What scripts ask for, in a scenario whose forms are built. Take a client's own notes, in which no connection is taken
+/// that is out and no transaction number is begun twice. Where its script over them wants a call and leaves no note
+/// unread, the call is proper after them: it gives what it has, names a transaction that lives, and stays within the
+/// bounds on a client's calls. A call on the pool needs only what is said of connections, a call on the store only what
+/// is said of transactions.
 pub fn wants_proper()
     ensures { WantsProper }
 {}
 
-/// Takes and gives are brackets, and so are the begins and the ends of transactions. In the lines of a script that is
-/// done each connection that was taken is given and each transaction that was begun is committed or rolled back, the
-/// newest first, and nothing is open where a top-level call begins.
+/// Takes and gives are brackets, and so are the begins and the ends of transactions, in a scenario whose forms are
+/// built. In the lines of a script that is done each connection that was taken is given and each transaction that was
+/// begun is committed or rolled back, the newest first, and nothing is open where a top-level call begins.
 pub fn balanced()
     ensures { Balanced }
 {}
 
-/// A script that is done holds nothing. Where it leaves no note unread, no connection is out and no transaction lives
-/// in the client's own notes.
+/// A script that is done holds nothing, in a scenario whose forms are built. Where it leaves no note unread, no
+/// connection is out and no transaction lives in the client's own notes.
 pub fn gives_all_back()
     ensures { GivesAllBack }
 {}
 
-/// What a play leaves is faithful. Where the histories of the pool and of the store are legal, and each client's script
-/// has read all of the client's own notes and is done, the outcome with the scripts' lines is a faithful run.
+/// What a play leaves is faithful, in a scenario whose forms are built. Where the histories of the pool and of the store
+/// are legal, and each client's script has read all of the client's own notes and is done, the outcome with the scripts'
+/// lines is a faithful run.
 pub fn done_is_faithful()
     ensures { DoneIsFaithful }
 {}

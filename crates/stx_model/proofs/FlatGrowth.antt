@@ -1,4 +1,4 @@
--- The lines of a script only grow: each piece says its lines after those that were said before.
+-- The lines of the flat script only grow: each piece says its lines after those that were said before.
 use Rattle.std.proofs.Common.{◌≡◌, ℕ, ◌+◌, ◌++◌, ◌∷◌, [], Bool, true, false, ℤ, ◌+ℤ◌, List, Option, Some, None, refl, sym, ap, ◌∙◌, append_assoc, append-nil}
 use Rattle.std.specs.Prelude.{int_lt}
 use Rattle.stx_scenario.specs.declared.numbers.ClassNo.{ClassNo}
@@ -7,7 +7,6 @@ use Rattle.stx_scenario.specs.declared.numbers.RowNo.{RowNo}
 use Rattle.stx_scenario.specs.declared.classes.TheConstants.{ILLEGAL_STATE_EXCEPTION, ARITHMETIC_EXCEPTION, CANNOT_CREATE_TRANSACTION_EXCEPTION, CANNOT_ACQUIRE_LOCK_EXCEPTION}
 use Rattle.stx_scenario.specs.declared.scenario.Scenario.{Scenario}
 use Rattle.stx_scenario.specs.declared.scenario.Stmt.{Stmt}
-use Rattle.stx_scenario.specs.declared.scenario.Propagation.{Propagation}
 use Rattle.stx_scenario.specs.declared.scenario.TxAttr.{TxAttr}
 use Rattle.stx_base.specs.declared.call.Want.{Want}
 use Rattle.stx_base.specs.declared.history.Access.{Access}
@@ -18,13 +17,16 @@ use Rattle.stx_base.specs.declared.line.Line.{Line}
 use Rattle.stx_base.specs.declared.manager.Kind.{Kind}
 use Rattle.stx_base.specs.declared.manager.Ending.{Ending}
 use Rattle.stx_base.specs.Attributes.{attribute}
-use Rattle.stx_model.specs.Contexts.{Live, bare}
-use Rattle.stx_base.specs.Notes.{is_answer}
+use Rattle.stx_model.specs.Contexts.{without_syncs}
 use Rattle.stx_base.specs.declared.history.Note.{Note}
-use Rattle.stx_model.specs.Meanings.{State, Result, Over, Stops, Breaks, state_of, Meaning, and_then, finally, say, with_context, unread, hear, answered, ask, on_take, on_begin, on_access}
+use Rattle.stx_base.specs.Notes.{is_answer}
+use Rattle.stx_model.specs.Meanings.{State, Result, Over, Stops, Breaks, state_of, Meaning, and_then, finally, say, with_context, with_local, unread, hear, answered, ask, on_take, on_begin, on_access}
 use Rattle.stx_model.specs.Reads.{StartsWith}
 use Rattle.stx_base.specs.Weight.{body_of}
-use Rattle.stx_model.specs.Script.{throws, unless_busy, access_row, nothing_more, value_of, is_value, needed, added, statement_in, statement_with, statement, body, leaves, gives_back, ending_call, completes, ending_after, ruled, ends_scope, owns_fresh, fresh_context, opened, begins, fresh, opening_of, intercepted, invoke, tops}
+use Rattle.stx_model.specs.Opening.{owns_fresh}
+use Rattle.stx_model.specs.Statements.{throws, unless_busy, access_row, nothing_more, value_of, is_value, needed, added, in_transaction}
+use Rattle.stx_model.specs.Scopes.{leaves, fresh_context, ruled}
+use Rattle.stx_model.proofs.FlatForm.{statement_in, body, let_go, gives_back, ending_call, completes, ending_after, ends, opened, begins, fresh, intercepted, invoke, tops}
 
 abbrev pub Grows : Meaning → Type 0
 Grows meaning = (st : State) → StartsWith (state_of (meaning st)).lines st.lines
@@ -78,63 +80,47 @@ throws_grows x st = (Line.Throw x ∷ [], refl)
 over_grows : (x : Option ClassNo) → Grows (Over x)
 over_grows x st = same st.lines
 
-unless_busy_grows : (next : Answer → Meaning) → ((r : Answer) → Grows (next r)) → (r : Answer) → Grows (unless_busy next r)
-unless_busy_grows next grows (Answer.Busy t) st = throws_grows CANNOT_ACQUIRE_LOCK_EXCEPTION st
-unless_busy_grows next grows (Answer.Found v) st = grows (Answer.Found v) st
-unless_busy_grows next grows Answer.Absent st = grows Answer.Absent st
-unless_busy_grows next grows Answer.Done st = grows Answer.Done st
-
 on_access_grows : (next : Answer → Meaning) → ((r : Answer) → Grows (next r)) → (n : Note) → Grows (on_access next n)
 on_access_grows next grows (Note.Store (StoreNote.Access t a r)) st = grows r st
 on_access_grows next grows (Note.Store (StoreNote.Auto a r)) st = grows r st
-on_access_grows next grows (Note.Store (StoreNote.Begin t)) st = same st.lines
-on_access_grows next grows (Note.Store (StoreNote.Point t)) st = same st.lines
-on_access_grows next grows (Note.Store (StoreNote.BackTo t)) st = same st.lines
-on_access_grows next grows (Note.Store (StoreNote.Release t)) st = same st.lines
-on_access_grows next grows (Note.Store (StoreNote.Commit t n)) st = same st.lines
-on_access_grows next grows (Note.Store (StoreNote.Rollback t)) st = same st.lines
+on_access_grows next grows (Note.Store _) st = same st.lines
 on_access_grows next grows (Note.Pool n) st = same st.lines
 
-pub access_grows : (t : ℕ) (a : Access) (next : Answer → Meaning) → ((r : Answer) → Grows (next r)) → Grows (access_row t a next)
-access_grows t a next grows =
-    ask_grows (Want.Access t a) (on_access (unless_busy next)) (on_access_grows (unless_busy next) (unless_busy_grows next grows))
+module _ (t : ℕ) where
+  unless_busy_grows : (next : Answer → Meaning) → ((r : Answer) → Grows (next r)) → (r : Answer) → Grows (unless_busy (in_transaction t) next r)
+  unless_busy_grows next grows (Answer.Busy u) st = throws_grows CANNOT_ACQUIRE_LOCK_EXCEPTION st
+  unless_busy_grows next grows (Answer.Found v) st = grows (Answer.Found v) st
+  unless_busy_grows next grows Answer.Absent st = grows Answer.Absent st
+  unless_busy_grows next grows Answer.Done st = grows Answer.Done st
 
-pub nothing_grows : (r : Answer) → Grows (nothing_more r)
-nothing_grows r st = same st.lines
+  pub access_grows : (a : Access) (next : Answer → Meaning) → ((r : Answer) → Grows (next r)) → Grows (access_row (in_transaction t) a next)
+  access_grows a next grows =
+      ask_grows (Want.Access t a) (on_access (unless_busy (in_transaction t) next)) (on_access_grows (unless_busy (in_transaction t) next) (unless_busy_grows next grows))
 
-pub needed_grows : (n : ℤ) (r : Answer) → Grows (needed n r)
-needed_grows n r = either_grows (int_lt (value_of r) n) (throws ILLEGAL_STATE_EXCEPTION) (Over None) (throws_grows ILLEGAL_STATE_EXCEPTION) (over_grows None)
+  pub nothing_grows : (r : Answer) → Grows (nothing_more (in_transaction t) r)
+  nothing_grows r st = same st.lines
 
-pub added_grows : (t : ℕ) (k : RowNo) (n : ℤ) (r : Answer) → Grows (added t k n r)
-added_grows t k n r =
-    either_grows (is_value (value_of r +ℤ n)) (access_row t (Access.Write k (value_of r +ℤ n)) nothing_more) (throws ARITHMETIC_EXCEPTION)
-    (access_grows t (Access.Write k (value_of r +ℤ n)) nothing_more nothing_grows) (throws_grows ARITHMETIC_EXCEPTION)
+  pub needed_grows : (n : ℤ) (r : Answer) → Grows (needed (in_transaction t) n r)
+  needed_grows n r = either_grows (int_lt (value_of r) n) (throws ILLEGAL_STATE_EXCEPTION) (Over None) (throws_grows ILLEGAL_STATE_EXCEPTION) (over_grows None)
 
-statement_in_grows : (t : ℕ) (s : Stmt) → Grows (statement_in t s)
-statement_in_grows t (Stmt.Read k) = access_grows t (Access.Read k) nothing_more nothing_grows
-statement_in_grows t (Stmt.Write k v) = access_grows t (Access.Write k v) nothing_more nothing_grows
-statement_in_grows t (Stmt.Erase k) = access_grows t (Access.Erase k) nothing_more nothing_grows
-statement_in_grows t (Stmt.Need k n) = access_grows t (Access.Read k) (needed n) (needed_grows n)
-statement_in_grows t (Stmt.Add k n) = access_grows t (Access.Read k) (added t k n) (added_grows t k n)
-statement_in_grows t (Stmt.Throw x) = throws_grows x
-statement_in_grows t (Stmt.Call m c) = λ st. same st.lines
-statement_in_grows t (Stmt.This m c) = λ st. same st.lines
-statement_in_grows t Stmt.Mark = λ st. same st.lines
-statement_in_grows t (Stmt.Publish e) = λ st. same st.lines
-statement_in_grows t (Stmt.Register y) = λ st. same st.lines
+  pub added_grows : (k : RowNo) (n : ℤ) (r : Answer) → Grows (added (in_transaction t) k n r)
+  added_grows k n r =
+      either_grows (is_value (value_of r +ℤ n)) (access_row (in_transaction t) (Access.Write k (value_of r +ℤ n)) (nothing_more (in_transaction t))) (throws ARITHMETIC_EXCEPTION)
+      (access_grows (Access.Write k (value_of r +ℤ n)) (nothing_more (in_transaction t)) nothing_grows) (throws_grows ARITHMETIC_EXCEPTION)
 
-statement_grows : (s : Stmt) → Grows (statement s)
-unfolding statement
-statement_grows s st = by_context st.context.tx
-  where
-    by_context : (o : Option Live) → StartsWith (state_of (statement_with o s st)).lines st.lines
-    by_context None = same st.lines
-    by_context (Some live) = statement_in_grows live.transaction s st
+  statement_in_grows : (s : Stmt) → Grows (statement_in t s)
+  statement_in_grows (Stmt.Read k) = access_grows (Access.Read k) (nothing_more (in_transaction t)) nothing_grows
+  statement_in_grows (Stmt.Write k v) = access_grows (Access.Write k v) (nothing_more (in_transaction t)) nothing_grows
+  statement_in_grows (Stmt.Erase k) = access_grows (Access.Erase k) (nothing_more (in_transaction t)) nothing_grows
+  statement_in_grows (Stmt.Need k n) = access_grows (Access.Read k) (needed (in_transaction t) n) (needed_grows n)
+  statement_in_grows (Stmt.Add k n) = access_grows (Access.Read k) (added (in_transaction t) k n) (added_grows k n)
+  statement_in_grows (Stmt.Throw x) = throws_grows x
+  statement_in_grows _ = λ st. same st.lines
 
-pub body_grows : (ss : List Stmt) → Grows (body ss)
-unfolding body
-body_grows [] st = same st.lines
-body_grows (s ∷ ss) st = and_then_grows (statement s st) (body ss) st.lines (statement_grows s st) (body_grows ss)
+  pub body_grows : (ss : List Stmt) → Grows (body t ss)
+  unfolding body
+  body_grows [] st = same st.lines
+  body_grows (s ∷ ss) st = and_then_grows (statement_in t s st) (body t ss) st.lines (statement_in_grows s st) (body_grows ss)
 
 -- ---- scopes and calls
 
@@ -143,13 +129,15 @@ leaves_grows m x st = (Line.Leave m x ∷ [], refl)
 
 pub gives_back_grows : (m : MethodNo) (c : ℕ) (x : Option ClassNo) → Grows (gives_back m c x)
 unfolding gives_back
-gives_back_grows m c x = ask_grows (Want.Give c) (λ _ given. leaves m x (with_context bare given)) (λ n st. leaves_grows m x (with_context bare st))
+gives_back_grows m c x = ask_grows (Want.Give c) (λ _ given. leaves m x (let_go given)) (λ n st. leaves_grows m x (let_go st))
 
 pub completes_grows : (m : MethodNo) (c t : ℕ) (e : Ending) (x : Option ClassNo) → Grows (completes m c t e x)
 unfolding completes
-completes_grows m c t e x = ask_grows (ending_call t e) (λ _. gives_back m c x) (λ n. gives_back_grows m c x)
+completes_grows m c t e x =
+    ask_grows (ending_call t e) (λ _ done. gives_back m c x (with_context (without_syncs done.context) done))
+    (λ n st. gives_back_grows m c x (with_context (without_syncs st.context) st))
 
-pub ends_grows : (S : Scenario) (m : MethodNo) (a : TxAttr) (c t : ℕ) (x : Option ClassNo) → Grows (ends_scope S m a c t x)
+pub ends_grows : (S : Scenario) (m : MethodNo) (a : TxAttr) (c t : ℕ) (x : Option ClassNo) → Grows (ends S m a c t x)
 ends_grows S m a c t None st = say_grows (Line.End Ending.Commit) (completes m c t Ending.Commit None) (completes_grows m c t Ending.Commit None) st
 ends_grows S m a c t (Some x) st =
     more_yet _ (ruled S a.rules (Some x) st).lines _
@@ -160,9 +148,9 @@ opened_grows : (S : Scenario) (m : MethodNo) (a : TxAttr) (c t : ℕ) → Grows 
 unfolding opened
 opened_grows S m a c t st =
     let owns = owns_fresh S.settings.mode in
-    let open_state = say (Line.Opened Kind.Fresh owns) (with_context (fresh_context c t a.read_only owns) st) in
-    finally_grows (body (body_of S m) open_state) (ends_scope S m a c t) st.lines
-    (more_yet _ open_state.lines _ (body_grows (body_of S m) open_state) (_, refl)) (ends_grows S m a c t)
+    let open_state = with_local (Some false) (say (Line.Opened Kind.Fresh owns) (with_context (fresh_context c t a.read_only owns) st)) in
+    finally_grows (body t (body_of S m) open_state) (ends S m a c t) st.lines
+    (more_yet _ open_state.lines _ (body_grows t (body_of S m) open_state) (_, refl)) (ends_grows S m a c t)
 
 on_begin_grows : (next : ℕ → Meaning) → ((t : ℕ) → Grows (next t)) → (n : Note) → Grows (on_begin next n)
 on_begin_grows next grows (Note.Store (StoreNote.Begin t)) st = grows t st
@@ -185,28 +173,19 @@ pub begins_grows : (S : Scenario) (m : MethodNo) (a : TxAttr) (c : Option ℕ) �
 unfolding begins
 begins_grows S m a (Some c) = ask_grows Want.Begin (on_begin (λ t. opened S m a c t)) (on_begin_grows (λ t. opened S m a c t) (λ t. opened_grows S m a c t))
 begins_grows S m a None =
-    say_grows (Line.Throw CANNOT_CREATE_TRANSACTION_EXCEPTION) (leaves m (Some CANNOT_CREATE_TRANSACTION_EXCEPTION)) (leaves_grows m (Some CANNOT_CREATE_TRANSACTION_EXCEPTION))
+    λ st. say_grows (Line.Throw CANNOT_CREATE_TRANSACTION_EXCEPTION) (leaves m (Some CANNOT_CREATE_TRANSACTION_EXCEPTION)) (leaves_grows m (Some CANNOT_CREATE_TRANSACTION_EXCEPTION)) (let_go st)
 
 pub fresh_grows : (S : Scenario) (m : MethodNo) (a : TxAttr) → Grows (fresh S m a)
 unfolding fresh
 fresh_grows S m a = ask_grows Want.Take (on_take (begins S m a)) (on_take_grows (begins S m a) (begins_grows S m a))
-
-opening_grows : (S : Scenario) (m : MethodNo) (a : TxAttr) (p : Propagation) → Grows (opening_of S m a p)
-opening_grows S m a Propagation.Required st = fresh_grows S m a st
-opening_grows S m a Propagation.Supports st = same st.lines
-opening_grows S m a Propagation.Mandatory st = same st.lines
-opening_grows S m a Propagation.RequiresNew st = same st.lines
-opening_grows S m a Propagation.NotSupported st = same st.lines
-opening_grows S m a Propagation.Never st = same st.lines
-opening_grows S m a Propagation.Nested st = same st.lines
 
 invoke_grows : (S : Scenario) (m : MethodNo) → Grows (invoke S m)
 unfolding invoke
 invoke_grows S m st = by_attribute (attribute S m)
   where
     by_attribute : (a : Option TxAttr) → StartsWith (state_of (intercepted S m a st)).lines st.lines
-    by_attribute None = same st.lines
-    by_attribute (Some a) = say_grows (Line.Call m a.propagation a.read_only) (opening_of S m a a.propagation) (opening_grows S m a a.propagation) st
+    by_attribute None = say_grows (Line.Plain m) (leaves m None) (leaves_grows m None) st
+    by_attribute (Some a) = say_grows (Line.Call m a.propagation a.read_only) (fresh S m a) (fresh_grows S m a) st
 
 pub tops_grows : (S : Scenario) (k : ℕ) (calls : List MethodNo) → Grows (tops S k calls)
 unfolding tops

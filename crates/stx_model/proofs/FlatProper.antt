@@ -1,4 +1,4 @@
--- What a script does with its connections and transactions: what it asks for is proper after what it has read, its
+-- What the script of a scenario whose forms are built does with its connections and transactions: what it asks for is proper after what it has read, its
 -- takes and gives are balanced, and a script that is done has given back all.
 use Rattle.std.proofs.Common.{◌≡◌, ℕ, zero, suc, ◌+◌, ◌-◌, ◌*◌, ◌^◌, ◌≤◌, ◌==◌, Bool, true, false, ◌&&◌, not, ℤ, ◌+ℤ◌, List, [], ◌∷◌, ◌++◌, length, drop, map, Option, Some, None, refl, sym, ap, ◌∙◌, subst, arith, append_assoc, append-nil, eq-eqb, eqb-true, fold}
 use Rattle.std.specs.Prelude.{int_lt, slice_get, unwrap_or, ⊤}
@@ -6,14 +6,13 @@ use Rattle.std.specs.Option.{option_map}
 use Rattle.std.specs.List.{sum_by}
 use Rattle.std.proofs.lemmas.Bool.{false≢true, or_left, lt-ltb}
 use Rattle.std.proofs.lemmas.List.{map-append}
-use Rattle.std.proofs.lemmas.List.Sums.{fold-append, sum_by-cons}
+use Rattle.std.proofs.lemmas.List.Sums.{fold-append, sum_by-cons, sum-map}
 use Rattle.stx_scenario.specs.declared.numbers.ClassNo.{ClassNo}
 use Rattle.stx_scenario.specs.declared.numbers.MethodNo.{MethodNo}
 use Rattle.stx_scenario.specs.declared.numbers.RowNo.{RowNo}
 use Rattle.stx_scenario.specs.declared.classes.TheConstants.{ILLEGAL_STATE_EXCEPTION, ARITHMETIC_EXCEPTION, CANNOT_CREATE_TRANSACTION_EXCEPTION, CANNOT_ACQUIRE_LOCK_EXCEPTION}
 use Rattle.stx_scenario.specs.declared.scenario.Scenario.{Scenario}
 use Rattle.stx_scenario.specs.declared.scenario.Stmt.{Stmt}
-use Rattle.stx_scenario.specs.declared.scenario.Propagation.{Propagation}
 use Rattle.stx_scenario.specs.declared.scenario.TxAttr.{TxAttr}
 use Rattle.stx_base.specs.declared.call.Want.{Want}
 use Rattle.stx_base.specs.declared.history.Access.{Access}
@@ -24,21 +23,26 @@ use Rattle.stx_base.specs.declared.line.Line.{Line}
 use Rattle.stx_base.specs.declared.manager.Kind.{Kind}
 use Rattle.stx_base.specs.declared.manager.Ending.{Ending}
 use Rattle.stx_base.specs.Attributes.{attribute}
-use Rattle.stx_model.specs.Contexts.{Context, Live, bare}
+use Rattle.stx_model.specs.Contexts.{without_syncs}
 use Rattle.stx_model.specs.Faithful.{Bracket, Neither, open_after, connection_bracket, transaction_bracket}
-use Rattle.stx_base.specs.Notes.{pool_answers, store_answers, pool_line, store_line}
 use Rattle.stx_base.specs.declared.history.Note.{Note}
-use Rattle.stx_model.specs.Meanings.{State, Result, Over, Stops, Breaks, state_of, at_first, Meaning, and_then, finally, say, with_context, unread, hear, answered, ask, on_take, on_begin, on_access}
+use Rattle.stx_base.specs.Notes.{pool_answers, store_answers, pool_line, store_line}
+use Rattle.stx_model.specs.Meanings.{State, Result, Over, Stops, Breaks, state_of, at_first, Meaning, and_then, finally, say, with_context, with_local, unread, hear, answered, ask, on_take, on_begin, on_access}
 use Rattle.stx_base.specs.Pools.{contains, out_after, out, pool_proper}
-use Rattle.stx_model.specs.Laws.{ReadsInOrder, WantsProper, Balanced, GivesAllBack}
+use Rattle.stx_model.specs.Laws.{WantsProper, Balanced, GivesAllBack}
 use Rattle.stx_base.specs.Histories.{has_room}
-use Rattle.stx_model.specs.Flat.{calls_weight, flat_weight}
 use Rattle.stx_model.specs.Reads.{IsEndOf, BeginsFresh, IsProperAfter, count_unread, notes_read}
 use Rattle.stx_base.specs.Stores.{begun, live, is_live, savepoints, is_pointed, store_proper}
-use Rattle.stx_base.specs.Weight.{body_of}
-use Rattle.stx_model.specs.Script.{throws, unless_busy, access_row, nothing_more, value_of, is_value, needed, added, statement_in, statement_with, statement, body, leaves, gives_back, ending_call, completes, ending_after, ruled, ends_scope, owns_fresh, fresh_context, opened, begins, fresh, opening_of, intercepted, invoke, tops, calls_of, script}
+use Rattle.stx_base.specs.Weight.{body_of, cost, client_weight, weight}
+use Rattle.stx_model.specs.Opening.{owns_fresh}
+use Rattle.stx_model.specs.Statements.{throws, unless_busy, access_row, nothing_more, value_of, is_value, needed, added, in_transaction}
+use Rattle.stx_model.specs.Scopes.{leaves, fresh_context, ruled}
+use Rattle.stx_model.specs.Script.{calls_of, script}
+use Rattle.stx_model.specs.Built.{IsBuilt}
+use Rattle.stx_model.proofs.FlatForm.{statement_in, body, let_go, gives_back, ending_call, completes, ending_after, ends, opened, begins, fresh, intercepted, invoke, tops, flat_script}
+use Rattle.stx_model.proofs.FlatTransfer.{script_is_flat}
 use Rattle.stx_model.proofs.ProperNotes.{Stands, stands_none, stands_begin, stands_access, stands_commit, stands_rollback, fresh_begin, none_live}
-use Rattle.stx_model.proofs.ReadsLaw.{script_reads}
+use Rattle.stx_model.proofs.ReadsLaw.{script_reads, costed_built}
 
 -- ---- what holds between two lines
 
@@ -196,34 +200,36 @@ module _ (pool : List PoolNote) (store : List StoreNote) where
         transactions = lined transaction_bracket st.lines (store_line n) before lives h.transactions step;
       }
 
-  -- ---- statements, in a transaction t and a context
+  -- ---- statements, in transaction t
 
-  module _ (taken : List ℕ) (t : ℕ) (context : Context) where
+  module _ (taken : List ℕ) (t : ℕ) where
     abbrev Inside : State → Type 0
-    Inside st = At pool store taken (t ∷ []) st × (st.context ≡ context)
+    Inside st = At pool store taken (t ∷ []) st
 
     -- from inside, and to there again
     abbrev Stays : Meaning → Type 0
     Stays meaning = (st : State) → Inside st → EndsWell Inside (meaning st)
 
     throws_stays : (x : ClassNo) → Stays (throws x)
-    throws_stays x st h = (said (Line.Throw x) taken (t ∷ []) st refl refl h.0, h.1)
+    throws_stays x st h = said (Line.Throw x) taken (t ∷ []) st refl refl h
 
-    unless_busy_stays : (next : Answer → Meaning) → ((r : Answer) → Stays (next r)) → (r : Answer) → Stays (unless_busy next r)
+    unless_busy_stays : (next : Answer → Meaning) → ((r : Answer) → Stays (next r)) → (r : Answer) → Stays (unless_busy (in_transaction t) next r)
     unless_busy_stays next stays (Answer.Busy u) st h = throws_stays CANNOT_ACQUIRE_LOCK_EXCEPTION st h
     unless_busy_stays next stays (Answer.Found v) st h = stays (Answer.Found v) st h
     unless_busy_stays next stays Answer.Absent st h = stays Answer.Absent st h
     unless_busy_stays next stays Answer.Done st h = stays Answer.Done st h
 
-    access_stays : (a : Access) (next : Answer → Meaning) → ((r : Answer) → Stays (next r)) → Stays (access_row t a next)
+    access_stays : (a : Access) (next : Answer → Meaning) → ((r : Answer) → Stays (next r)) → Stays (access_row (in_transaction t) a next)
     unfolding ask
     access_stays a next stays st h =
-        store_asked Inside (Want.Access t a) (on_access (unless_busy next)) st st.store refl (record { taken = taken; lives = t ∷ []; holds = h.0; allows = refl }) by_note
+        store_asked Inside (Want.Access t a) (on_access (unless_busy (in_transaction t) next)) st st.store refl
+        (record { taken = taken; lives = t ∷ []; holds = h; allows = refl }) by_note
       where
-        by_note : (n : StoreNote) → store_answers (Want.Access t a) n ≡ true → st.store ≡ n ∷ drop 1 st.store → EndsWell Inside (on_access (unless_busy next) (Note.Store n) (hear (Note.Store n) st))
+        by_note : (n : StoreNote) → store_answers (Want.Access t a) n ≡ true → st.store ≡ n ∷ drop 1 st.store
+            → EndsWell Inside (on_access (unless_busy (in_transaction t) next) (Note.Store n) (hear (Note.Store n) st))
         by_note (StoreNote.Access u b r) answers is =
             unless_busy_stays next stays r (hear (Note.Store (StoreNote.Access u b r)) st)
-            (hears_store taken (t ∷ []) (t ∷ []) (StoreNote.Access u b r) st h.0 is (λ read whole new. stands_access read u b r (t ∷ [])) refl, h.1)
+            (hears_store taken (t ∷ []) (t ∷ []) (StoreNote.Access u b r) st h is (λ read whole new. stands_access read u b r (t ∷ [])) refl)
         by_note (StoreNote.Begin u) answers is = absurd (false≢true answers)
         by_note (StoreNote.Point u) answers is = absurd (false≢true answers)
         by_note (StoreNote.BackTo u) answers is = absurd (false≢true answers)
@@ -232,46 +238,31 @@ module _ (pool : List PoolNote) (store : List StoreNote) where
         by_note (StoreNote.Rollback u) answers is = absurd (false≢true answers)
         by_note (StoreNote.Auto b r) answers is = absurd (false≢true answers)
 
-    nothing_more_stays : (r : Answer) → Stays (nothing_more r)
+    nothing_more_stays : (r : Answer) → Stays (nothing_more (in_transaction t) r)
     nothing_more_stays r st h = h
 
-    needed_stays : (n : ℤ) (r : Answer) → Stays (needed n r)
+    needed_stays : (n : ℤ) (r : Answer) → Stays (needed (in_transaction t) n r)
     needed_stays n r st h = either_well Inside (int_lt (value_of r) n) (throws ILLEGAL_STATE_EXCEPTION st) (Over None st) (throws_stays ILLEGAL_STATE_EXCEPTION st h) h
 
-    added_stays : (k : RowNo) (n : ℤ) (r : Answer) → Stays (added t k n r)
+    added_stays : (k : RowNo) (n : ℤ) (r : Answer) → Stays (added (in_transaction t) k n r)
     added_stays k n r st h =
-        either_well Inside (is_value (value_of r +ℤ n)) (access_row t (Access.Write k (value_of r +ℤ n)) nothing_more st) (throws ARITHMETIC_EXCEPTION st)
-        (access_stays (Access.Write k (value_of r +ℤ n)) nothing_more nothing_more_stays st h) (throws_stays ARITHMETIC_EXCEPTION st h)
-
-    breaks_stays : Stays Breaks
-    breaks_stays st h = remains taken (t ∷ []) st h.0
+        either_well Inside (is_value (value_of r +ℤ n)) (access_row (in_transaction t) (Access.Write k (value_of r +ℤ n)) (nothing_more (in_transaction t)) st)
+        (throws ARITHMETIC_EXCEPTION st)
+        (access_stays (Access.Write k (value_of r +ℤ n)) (nothing_more (in_transaction t)) nothing_more_stays st h) (throws_stays ARITHMETIC_EXCEPTION st h)
 
     statement_in_stays : (s : Stmt) → Stays (statement_in t s)
-    statement_in_stays (Stmt.Read k) = access_stays (Access.Read k) nothing_more nothing_more_stays
-    statement_in_stays (Stmt.Write k v) = access_stays (Access.Write k v) nothing_more nothing_more_stays
-    statement_in_stays (Stmt.Erase k) = access_stays (Access.Erase k) nothing_more nothing_more_stays
-    statement_in_stays (Stmt.Need k n) = access_stays (Access.Read k) (needed n) (needed_stays n)
-    statement_in_stays (Stmt.Add k n) = access_stays (Access.Read k) (added t k n) (added_stays k n)
+    statement_in_stays (Stmt.Read k) = access_stays (Access.Read k) (nothing_more (in_transaction t)) nothing_more_stays
+    statement_in_stays (Stmt.Write k v) = access_stays (Access.Write k v) (nothing_more (in_transaction t)) nothing_more_stays
+    statement_in_stays (Stmt.Erase k) = access_stays (Access.Erase k) (nothing_more (in_transaction t)) nothing_more_stays
+    statement_in_stays (Stmt.Need k n) = access_stays (Access.Read k) (needed (in_transaction t) n) (needed_stays n)
+    statement_in_stays (Stmt.Add k n) = access_stays (Access.Read k) (added (in_transaction t) k n) (added_stays k n)
     statement_in_stays (Stmt.Throw x) = throws_stays x
-    statement_in_stays _ = breaks_stays
+    statement_in_stays _ = remains taken (t ∷ [])
 
-    -- the transaction of a context, if it has one
-    abbrev IsHere : Option Live → Type 0
-    IsHere None = ⊤
-    IsHere (Some live) = live.transaction ≡ t
-
-    statement_stays : (s : Stmt) → IsHere context.tx → Stays (statement s)
-    unfolding statement
-    statement_stays s here st h = by_context st.context.tx (subst (λ c. IsHere c.tx) (sym h.1) here)
-      where
-        by_context : (o : Option Live) → IsHere o → EndsWell Inside (statement_with o s st)
-        by_context None is = breaks_stays st h
-        by_context (Some live) is = subst (λ u. EndsWell Inside (statement_in u s st)) (sym is) (statement_in_stays s st h)
-
-    pub body_stays : IsHere context.tx → (ss : List Stmt) → Stays (body ss)
+    pub body_stays : (ss : List Stmt) → Stays (body t ss)
     unfolding body
-    body_stays here [] st h = h
-    body_stays here (s ∷ ss) st h = and_then_well Inside (statement s st) (body ss) (statement_stays s here st h) (body_stays here ss)
+    body_stays [] st h = h
+    body_stays (s ∷ ss) st h = and_then_well Inside (statement_in t s st) (body t ss) (statement_in_stays s st h) (body_stays ss)
 
   -- ---- scopes and calls: nothing is out between two calls
 
@@ -284,12 +275,12 @@ module _ (pool : List PoolNote) (store : List StoreNote) where
   gives_back_idle : (m : MethodNo) (c : ℕ) (x : Option ClassNo) (st : State) → At pool store (c ∷ []) [] st → EndsWell Idle (gives_back m c x st)
   unfolding gives_back ask
   gives_back_idle m c x st h =
-      pool_asked Idle (Want.Give c) (λ _ given. leaves m x (with_context bare given)) st st.pool refl (record { taken = c ∷ []; lives = []; holds = h; allows = refl }) by_note
+      pool_asked Idle (Want.Give c) (λ _ given. leaves m x (let_go given)) st st.pool refl (record { taken = c ∷ []; lives = []; holds = h; allows = refl }) by_note
     where
-      by_note : (n : PoolNote) → pool_answers (Want.Give c) n ≡ true → st.pool ≡ n ∷ drop 1 st.pool → EndsWell Idle (leaves m x (with_context bare (hear (Note.Pool n) st)))
+      by_note : (n : PoolNote) → pool_answers (Want.Give c) n ≡ true → st.pool ≡ n ∷ drop 1 st.pool → EndsWell Idle (leaves m x (let_go (hear (Note.Pool n) st)))
       by_note (PoolNote.Given d) answers is =
           let same : d ≡ c = eqb-true d c answers in
-          leaves_idle m x (with_context bare (hear (Note.Pool (PoolNote.Given d)) st))
+          leaves_idle m x (let_go (hear (Note.Pool (PoolNote.Given d)) st))
           (hears_pool (c ∷ []) [] [] (PoolNote.Given d) st h is (rw (same, eq-eqb c c refl) refl) (rw (same, eq-eqb c c refl) refl))
       by_note (PoolNote.Taken d) answers is = absurd (false≢true answers)
       by_note PoolNote.Empty answers is = absurd (false≢true answers)
@@ -299,11 +290,11 @@ module _ (pool : List PoolNote) (store : List StoreNote) where
   completes_idle m c t e x st h = by_ending e
     where
       next : Note → Meaning
-      next _ = gives_back m c x
+      next _ done = gives_back m c x (with_context (without_syncs done.context) done)
 
-      at_commit : (n : StoreNote) → store_answers (Want.Commit t) n ≡ true → st.store ≡ n ∷ drop 1 st.store → EndsWell Idle (gives_back m c x (hear (Note.Store n) st))
+      at_commit : (n : StoreNote) → store_answers (Want.Commit t) n ≡ true → st.store ≡ n ∷ drop 1 st.store → EndsWell Idle (next (Note.Store n) (hear (Note.Store n) st))
       at_commit (StoreNote.Commit u k) answers is =
-          gives_back_idle m c x (hear (Note.Store (StoreNote.Commit u k)) st)
+          gives_back_idle m c x _
           (hears_store (c ∷ []) (t ∷ []) [] (StoreNote.Commit u k) st h is
           (λ read whole new stands. stands_commit read u k (subst (λ v. Stands read (v ∷ [])) (sym (eqb-true u t answers)) stands))
           (rw (eqb-true u t answers, eq-eqb t t refl) refl))
@@ -315,9 +306,9 @@ module _ (pool : List PoolNote) (store : List StoreNote) where
       at_commit (StoreNote.Release u) answers is = absurd (false≢true answers)
       at_commit (StoreNote.Auto b r) answers is = absurd (false≢true answers)
 
-      at_rollback : (n : StoreNote) → store_answers (Want.Rollback t) n ≡ true → st.store ≡ n ∷ drop 1 st.store → EndsWell Idle (gives_back m c x (hear (Note.Store n) st))
+      at_rollback : (n : StoreNote) → store_answers (Want.Rollback t) n ≡ true → st.store ≡ n ∷ drop 1 st.store → EndsWell Idle (next (Note.Store n) (hear (Note.Store n) st))
       at_rollback (StoreNote.Rollback u) answers is =
-          gives_back_idle m c x (hear (Note.Store (StoreNote.Rollback u)) st)
+          gives_back_idle m c x _
           (hears_store (c ∷ []) (t ∷ []) [] (StoreNote.Rollback u) st h is
           (λ read whole new stands. stands_rollback read u (subst (λ v. Stands read (v ∷ [])) (sym (eqb-true u t answers)) stands))
           (rw (eqb-true u t answers, eq-eqb t t refl) refl))
@@ -337,7 +328,7 @@ module _ (pool : List PoolNote) (store : List StoreNote) where
       by_ending Ending.Rollback = rolls_back
       by_ending Ending.Unexpected = rolls_back
 
-  ends_idle : (S : Scenario) (m : MethodNo) (a : TxAttr) (c t : ℕ) (x : Option ClassNo) (st : State) → At pool store (c ∷ []) (t ∷ []) st → EndsWell Idle (ends_scope S m a c t x st)
+  ends_idle : (S : Scenario) (m : MethodNo) (a : TxAttr) (c t : ℕ) (x : Option ClassNo) (st : State) → At pool store (c ∷ []) (t ∷ []) st → EndsWell Idle (ends S m a c t x st)
   ends_idle S m a c t None st h =
       completes_idle m c t Ending.Commit None (say (Line.End Ending.Commit) st) (said (Line.End Ending.Commit) (c ∷ []) (t ∷ []) st refl refl h)
   ends_idle S m a c t (Some x) st h =
@@ -348,11 +339,11 @@ module _ (pool : List PoolNote) (store : List StoreNote) where
   unfolding opened
   opened_idle S m a c t st h =
       let owns = owns_fresh S.settings.mode in
-      let context = fresh_context c t a.read_only owns in
-      let open_state = say (Line.Opened Kind.Fresh owns) (with_context context st) in
-      finally_well (Inside (c ∷ []) t context) Idle (body (body_of S m) open_state) (ends_scope S m a c t)
-      (body_stays (c ∷ []) t context refl (body_of S m) open_state (said (Line.Opened Kind.Fresh owns) (c ∷ []) (t ∷ []) (with_context context st) refl refl h, refl))
-      (λ x after inside. ends_idle S m a c t x after inside.0)
+      let inside = with_context (fresh_context c t a.read_only owns) st in
+      let open_state = with_local (Some false) (say (Line.Opened Kind.Fresh owns) inside) in
+      finally_well (Inside (c ∷ []) t) Idle (body t (body_of S m) open_state) (ends S m a c t)
+      (body_stays (c ∷ []) t (body_of S m) open_state (said (Line.Opened Kind.Fresh owns) (c ∷ []) (t ∷ []) inside refl refl h))
+      (λ x after h. ends_idle S m a c t x after h)
 
   begins_idle : (S : Scenario) (m : MethodNo) (a : TxAttr) (c : ℕ) (st : State) → At pool store (c ∷ []) [] st → EndsWell Idle (begins S m a (Some c) st)
   unfolding begins ask
@@ -375,8 +366,8 @@ module _ (pool : List PoolNote) (store : List StoreNote) where
   refused_idle : (S : Scenario) (m : MethodNo) (a : TxAttr) (st : State) → Idle st → EndsWell Idle (begins S m a None st)
   unfolding begins
   refused_idle S m a st h =
-      leaves_idle m (Some CANNOT_CREATE_TRANSACTION_EXCEPTION) (say (Line.Throw CANNOT_CREATE_TRANSACTION_EXCEPTION) st)
-      (said (Line.Throw CANNOT_CREATE_TRANSACTION_EXCEPTION) [] [] st refl refl h)
+      leaves_idle m (Some CANNOT_CREATE_TRANSACTION_EXCEPTION) (say (Line.Throw CANNOT_CREATE_TRANSACTION_EXCEPTION) (let_go st))
+      (said (Line.Throw CANNOT_CREATE_TRANSACTION_EXCEPTION) [] [] (let_go st) refl refl h)
 
   fresh_idle : (S : Scenario) (m : MethodNo) (a : TxAttr) (st : State) → Idle st → EndsWell Idle (fresh S m a st)
   unfolding fresh ask
@@ -388,18 +379,14 @@ module _ (pool : List PoolNote) (store : List StoreNote) where
       by_note PoolNote.Empty answers is = refused_idle S m a (hear (Note.Pool PoolNote.Empty) st) (hears_pool [] [] [] PoolNote.Empty st h is refl refl)
       by_note (PoolNote.Given c) answers is = absurd (false≢true answers)
 
-  opening_idle : (S : Scenario) (m : MethodNo) (a : TxAttr) (p : Propagation) (st : State) → Idle st → EndsWell Idle (opening_of S m a p st)
-  opening_idle S m a Propagation.Required st h = fresh_idle S m a st h
-  opening_idle S m a _ st h = remains [] [] st h
-
   invoke_idle : (S : Scenario) (m : MethodNo) (st : State) → Idle st → EndsWell Idle (invoke S m st)
   unfolding invoke
   invoke_idle S m st h = by_attribute (attribute S m)
     where
       by_attribute : (a : Option TxAttr) → EndsWell Idle (intercepted S m a st)
-      by_attribute None = remains [] [] st h
+      by_attribute None = leaves_idle m None (say (Line.Plain m) st) (said (Line.Plain m) [] [] st refl refl h)
       by_attribute (Some a) =
-          opening_idle S m a a.propagation (say (Line.Call m a.propagation a.read_only) st) (said (Line.Call m a.propagation a.read_only) [] [] st refl refl h)
+          fresh_idle S m a (say (Line.Call m a.propagation a.read_only) st) (said (Line.Call m a.propagation a.read_only) [] [] st refl refl h)
 
   -- a top-level call begins with all closed
   topped : (k : ℕ) (st : State) → Idle st → Idle (say (Line.Top k) st)
@@ -420,36 +407,28 @@ module _ (pool : List PoolNote) (store : List StoreNote) where
   tops_idle S k (m ∷ calls) st h =
       finally_well Idle Idle (invoke S m (say (Line.Top k) st)) (λ _. tops S (k + 1) calls) (invoke_idle S m (say (Line.Top k) st) (topped k st h)) (λ x. tops_idle S (k + 1) calls)
 
-  pub script_well : (S : Scenario) (c : ℕ) → EndsWell Idle (script S c pool store)
-  unfolding script
-  script_well S c =
+  flat_well : (S : Scenario) (c : ℕ) → EndsWell Idle (flat_script S c pool store)
+  unfolding flat_script
+  flat_well S c =
       tops_idle S 0 (calls_of S c) (at_first pool store)
       (record { pool_read = []; store_read = []; pool_is = refl; store_is = refl; out_is = refl; stands = λ new. stands_none; connections = refl; transactions = refl })
 
 -- ---- the laws
 
-pub reads_in_order : ReadsInOrder
-reads_in_order S c pool store = by_result (script S c pool store) (script_well pool store S c)
-  where
-    by_result : (r : Result) → EndsWell pool store (Idle pool store) r → Remains pool store (state_of r)
-    by_result (Over x st) h = remains pool store [] [] st h
-    by_result (Stops w st) h = remains pool store h.taken h.lives st h.holds
-    by_result (Breaks st) h = h
-
-stops_well : (S : Scenario) (c : ℕ) (pool : List PoolNote) (store : List StoreNote) (want : Want) (end : State) → script S c pool store ≡ Stops want end → StopsWell pool store want end
-stops_well S c pool store want end is = subst (EndsWell pool store (Idle pool store)) is (script_well pool store S c)
+stops_well : (S : Scenario) → IsBuilt S → (c : ℕ) (pool : List PoolNote) (store : List StoreNote) (want : Want) (end : State) → script S c pool store ≡ Stops want end → StopsWell pool store want end
+stops_well S built c pool store want end is = subst (EndsWell pool store (Idle pool store)) (sym (script_is_flat S built c pool store) ∙ is) (flat_well pool store S c)
 
 pub balanced : Balanced
-balanced S c pool store end is =
-    let stops = stops_well S c pool store Want.Done end is in (stops.holds.connections ∙ ap Some stops.allows.0, stops.holds.transactions ∙ ap Some stops.allows.1)
+balanced S built c pool store end is =
+    let stops = stops_well S built c pool store Want.Done end is in (stops.holds.connections ∙ ap Some stops.allows.0, stops.holds.transactions ∙ ap Some stops.allows.1)
 
 -- where nothing is left, all was read
 all_read : {N : Type 0} (all read left : List N) → all ≡ read ++ left → left ≡ [] → all ≡ read
 all_read all read left is none = is ∙ ap (λ ns. read ++ ns) none ∙ append-nil read
 
 pub gives_all_back : GivesAllBack
-gives_all_back S c pool store end is no_pool no_store =
-    let stops = stops_well S c pool store Want.Done end is in
+gives_all_back S built c pool store end is no_pool no_store =
+    let stops = stops_well S built c pool store Want.Done end is in
     let holds = stops.holds in (
       λ fresh. ap out (all_read pool holds.pool_read end.pool holds.pool_is no_pool) ∙ holds.out_is ∙ stops.allows.0,
       λ fresh. none_live (live store) (λ t.
@@ -509,19 +488,21 @@ item_within weight default (x ∷ xs) zero none = omega (arith, sum_by-cons weig
 item_within weight default (x ∷ xs) (suc i) none = omega (arith, sum_by-cons weight x xs, item_within weight default xs i none)
 
 -- where no note is left unread, the notes are few
-few_notes : (S : Scenario) → flat_weight S ≤ 200000 → (c : ℕ) (pool : List PoolNote) (store : List StoreNote) (want : Want) (end : State)
+few_notes : (S : Scenario) → IsBuilt S → weight S ≤ 200000 → (c : ℕ) (pool : List PoolNote) (store : List StoreNote) (want : Want) (end : State)
     → script S c pool store ≡ Stops want end → end.pool ≡ [] → end.store ≡ [] → length pool + length store ≤ 1600000
-few_notes S light c pool store want end is no_pool no_store =
-    let reads : notes_read S c pool store ≤ 8 * calls_weight S (calls_of S c) = script_reads S c pool store in
+few_notes S built light c pool store want end is no_pool no_store =
+    let of : List MethodNo → ℕ = client_weight (cost S) in
+    let reads : notes_read S c pool store ≤ 8 * of (calls_of S c) = script_reads S (costed_built S built) c pool store in
     let read : notes_read S c pool store ≡ length pool + length store - (length end.pool + length end.store) = ap (λ r. length pool + length store - count_unread (state_of r)) is in
-    let own : calls_weight S (calls_of S c) ≤ flat_weight S = item_within (calls_weight S) [] S.clients c refl in
+    let own : of (calls_of S c) ≤ sum_by of S.clients = item_within of [] S.clients c refl in
+    let all : weight S ≡ sum_by of S.clients = sum-map of S.clients in
     omega (arith, ap length no_pool, ap length no_store)
 
 pub wants_proper : WantsProper
-wants_proper S light c pool store want end is no_pool no_store =
-    let stops = stops_well S c pool store want end is in
+wants_proper S built light c pool store want end is no_pool no_store =
+    let stops = stops_well S built c pool store want end is in
     let holds = stops.holds in
-    let few : length pool + length store ≤ 1600000 = few_notes S light c pool store want end is no_pool no_store in
+    let few : length pool + length store ≤ 1600000 = few_notes S built light c pool store want end is no_pool no_store in
     proper_after pool store stops.taken stops.lives
     (ap out (all_read pool holds.pool_read end.pool holds.pool_is no_pool) ∙ holds.out_is)
     (λ fresh. subst (λ ns. Stands ns stops.lives) (sym (all_read store holds.store_read end.store holds.store_is no_store)) (holds.stands fresh))

@@ -1,5 +1,0 @@
-use Rattle.stx_model.proofs.ProperLaw.{reads_in_order}
-use Rattle.stx_model.proofs.laws.reads_in_order.Goals as goal
-
-pub returns : goal.returns
-returns c = reads_in_order
