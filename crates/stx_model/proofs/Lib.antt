@@ -5,5 +5,6 @@ pub mod SerialLocks
 pub mod SerialJournal
 pub mod SerialLaw
 pub mod Small
+pub mod Traces
 pub mod JoinRows
 pub mod FreshLaw
