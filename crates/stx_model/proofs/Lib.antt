@@ -7,4 +7,6 @@ pub mod SerialLaw
 pub mod Small
 pub mod Traces
 pub mod JoinRows
+pub mod PointRows
+pub mod SuspensionRows
 pub mod FreshLaw

@@ -21,6 +21,7 @@ use Rattle.stx_scenario.specs.declared.scenario.Stmt.{Stmt}
 use Rattle.stx_scenario.specs.BuiltIn.{built_in}
 use Rattle.stx_base.specs.declared.history.PoolNote.{PoolNote}
 use Rattle.stx_base.specs.declared.history.StoreNote.{StoreNote}
+use Rattle.stx_base.specs.declared.line.Label.{Label}
 use Rattle.stx_base.specs.declared.line.Line.{Line}
 use Rattle.stx_base.specs.declared.call.Want.{Want}
 use Rattle.stx_base.specs.Rules.{winner, rolls_back}
@@ -66,6 +67,19 @@ e = record { 0 = 0 }
 
 abbrev pub listener_no : ℕ → ListenerNo
 listener_no number = record { 0 = number }
+
+-- the first two synchronisations and listeners, by their labels
+abbrev pub s : Label
+s = Label.Sync (sync_no 0)
+
+abbrev pub t : Label
+t = Label.Sync (sync_no 1)
+
+abbrev pub l : Label
+l = Label.Listener (listener_no 0)
+
+abbrev pub o : Label
+o = Label.Listener (listener_no 1)
 
 -- ---- attributes
 
