@@ -244,3 +244,19 @@ pub after_completion_of_an_empty_scope_meets_a_bare_context :
     ∷ leave m ∷ [])
 unfolding Says
 after_completion_of_an_empty_scope_meets_a_bare_context = refl
+
+-- the callback itself catches what the method throws
+pub a_callback_catches_what_its_call_throws :
+    Says (record calls_in_each_round {
+      methods = method required (Stmt.Register (sync_no 0) ∷ []) ∷ method requires_new (Stmt.Throw RUNTIME_EXCEPTION ∷ []) ∷ [];
+      syncs = record (sync last_of_all) { after_commit = Stmt.Call n (Some RUNTIME_EXCEPTION) ∷ [] } ∷ [];
+    }) 0 (
+    top 0 ∷ call m Propagation.Required ∷ take 1 ∷ begin 1 ∷ open_fresh_sync ∷ register s
+    ∷ end_commit ∷ before_commit s ∷ before_completion s ∷ commit 1 1
+    ∷ after_commit s
+    ∷ call n Propagation.RequiresNew ∷ suspend s ∷ unbind 1 ∷ take 2 ∷ begin 2 ∷ open_fresh_sync ∷ throw RUNTIME_EXCEPTION ∷ rules_rollback_by None
+    ∷ end_rollback ∷ rollback 2 ∷ give 2 ∷ bind 1 ∷ resume s ∷ leave_throws n RUNTIME_EXCEPTION
+    ∷ catch RUNTIME_EXCEPTION
+    ∷ after_completion_committed s ∷ give 1 ∷ leave m ∷ [])
+unfolding Says
+a_callback_catches_what_its_call_throws = refl

@@ -15,4 +15,5 @@ pub mod ListenerRows
 pub mod PlainRows
 pub mod FlatRows
 pub mod ShopRow
+pub mod NoteRows
 pub mod FreshLaw
