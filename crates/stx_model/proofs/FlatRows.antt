@@ -17,7 +17,7 @@ use Rattle.stx_model.proofs.Traces.{top, call, call_plain, leave, leave_throws, 
 
 -- ---- one method
 
-abbrev writes_and_reads : Scenario
+abbrev pub writes_and_reads : Scenario
 writes_and_reads = plainly (method required (Stmt.Write a (pos 5) ∷ Stmt.Read a ∷ []) ∷ [])
 
 pub a_transaction_writes_reads_and_commits : Says writes_and_reads 0 (

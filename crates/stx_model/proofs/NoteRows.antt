@@ -16,8 +16,10 @@ use Rattle.stx_base.specs.declared.line.Line.{Line}
 use Rattle.stx_model.specs.Contexts.{Context, Registration, bare}
 use Rattle.stx_model.specs.Meanings.{Result, Stops, Breaks}
 use Rattle.stx_model.specs.Script.{script}
-use Rattle.stx_model.proofs.Small.{method_no, m, n, p, a, k, sync_no, s, required, requires_new, nested, last_of_all, method, sync, plainly, pool_note, store_note, Says}
+use Rattle.stx_model.proofs.Small.{method_no, m, n, p, a, k, sync_no, s, required, requires_new, nested, last_of_all, method, sync, plainly, with_transaction, pool_note, store_note, Says}
 use Rattle.stx_model.proofs.Traces.{top, call, call_read_only, call_plain, leave, leave_throws, throw, catch, rules_rollback_by, open_fresh_sync, open_join, open_point, end_commit, end_rollback, end_unexpected, mark, mark_global, take, give, unbind, bind, suspend, resume, begin, read, write, erase, auto_read, auto_write, savepoint, back_to, release, commit, rollback, register, before_completion, after_completion_rolled_back}
+use Rattle.stx_model.proofs.PointRows.{marked_inside}
+use Rattle.stx_model.proofs.FlatRows.{writes_and_reads}
 
 -- ---- where scripts stop
 
@@ -28,10 +30,6 @@ unfolding Says
 Stands S lines want context local =
     script S 0 (filter_map pool_note lines) (filter_map store_note lines)
     ≡ Stops want (record { lines = lines; context = context; local = local; pool = []; store = [] })
-
--- connection 1 is bound with transaction 1, which isn't read-only
-abbrev with_transaction : Bool → Option (List Registration) → Context
-with_transaction marked syncs = record { tx = Some (record { connection = 1; transaction = 1; read_only = false; mark = marked }); syncs = syncs }
 
 -- a registration of s
 abbrev of_s : Option (List Registration)
@@ -85,18 +83,11 @@ unfolding Stands
 the_connection_is_bound_until_it_is_given_back = refl
 
 -- a joined scope fails inside a nested one
-abbrev marked_inside : Scenario
-marked_inside = plainly (
-    method required (Stmt.Call n None ∷ [])
-    ∷ method nested (Stmt.Call p (Some RUNTIME_EXCEPTION) ∷ [])
-    ∷ method required (Stmt.Throw RUNTIME_EXCEPTION ∷ [])
-    ∷ [])
-
 abbrev until_the_return : List Line
 until_the_return = top 0 ∷ call m Propagation.Required ∷ take 1 ∷ begin 1 ∷ open_fresh_sync
-    ∷ call n Propagation.Nested ∷ savepoint 1 ∷ open_point
-    ∷ call p Propagation.Required ∷ open_join ∷ throw RUNTIME_EXCEPTION ∷ rules_rollback_by None
-    ∷ end_rollback ∷ mark_global ∷ leave_throws p RUNTIME_EXCEPTION
+    ∷ call p Propagation.Nested ∷ savepoint 1 ∷ open_point
+    ∷ call n Propagation.Required ∷ open_join ∷ throw RUNTIME_EXCEPTION ∷ rules_rollback_by None
+    ∷ end_rollback ∷ mark_global ∷ leave_throws n RUNTIME_EXCEPTION
     ∷ catch RUNTIME_EXCEPTION
     ∷ end_unexpected ∷ []
 
@@ -118,9 +109,6 @@ breaks _ = false
 -- the script of client 0 over the notes that these lines tell
 abbrev breaks_over : Scenario → List Line → Bool
 breaks_over S lines = breaks (script S 0 (filter_map pool_note lines) (filter_map store_note lines))
-
-abbrev writes_and_reads : Scenario
-writes_and_reads = plainly (method required (Stmt.Write a (pos 5) ∷ Stmt.Read a ∷ []) ∷ [])
 
 -- nothing; another transaction, row, value, kind of access and kind of answer; a commit or rollback of another, a rollback
 -- where a commit is wanted, and another connection that is given back

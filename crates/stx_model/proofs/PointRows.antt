@@ -73,7 +73,7 @@ a_marked_nested_scope_goes_back_and_throws_nothing = refl
 -- ---- the global mark
 
 -- a scope joins inside the nested one and fails
-abbrev marked_inside : Scenario
+abbrev pub marked_inside : Scenario
 marked_inside = plainly (
     method required (Stmt.Call p (Some UNEXPECTED_ROLLBACK_EXCEPTION) ∷ [])
     ∷ method required (Stmt.Throw RUNTIME_EXCEPTION ∷ [])

@@ -26,7 +26,7 @@ use Rattle.stx_base.specs.declared.line.Line.{Line}
 use Rattle.stx_base.specs.declared.call.Want.{Want}
 use Rattle.stx_base.specs.Rules.{winner, rolls_back}
 use Rattle.stx_base.specs.Weight.{longest, leads}
-use Rattle.stx_model.specs.Contexts.{bare}
+use Rattle.stx_model.specs.Contexts.{Context, Registration, bare}
 use Rattle.stx_model.specs.Meanings.{Result, Stops, ask}
 use Rattle.stx_model.specs.Opening.{opening}
 use Rattle.stx_model.specs.Ending.{completion}
@@ -143,6 +143,12 @@ plainly methods = record {
   listeners = [];
   clients = (m ∷ []) ∷ [];
 }
+
+-- ---- contexts
+
+-- a live transaction, marked or not, with these registrations where synchronisation is active
+abbrev pub with_transaction : Bool → Option (List Registration) → Context
+with_transaction marked syncs = record { tx = Some (record { connection = 1; transaction = 1; read_only = false; mark = marked }); syncs = syncs }
 
 -- ---- what a row says
 

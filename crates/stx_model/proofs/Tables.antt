@@ -21,7 +21,7 @@ use Rattle.stx_model.specs.Scopes.{Scope, acts, completes}
 use Rattle.stx_model.specs.Opening.{opening}
 use Rattle.stx_model.specs.Ending.{ending, completion}
 use Rattle.stx_model.specs.Listeners.{Register, RunNow, Skip, deeds, runs_in}
-use Rattle.stx_model.proofs.Small.{m, e, listener_no, s, t, settings, last_of_all, method, sync, listener, plainly, pool_note, store_note}
+use Rattle.stx_model.proofs.Small.{m, e, listener_no, s, t, settings, last_of_all, method, sync, listener, plainly, with_transaction, pool_note, store_note}
 use Rattle.stx_model.proofs.Traces.{leave, leave_throws, throw, mark_global, give, bind, resume, back_to, release, commit, rollback, before_commit, before_completion, after_commit, after_completion_committed, after_completion_rolled_back}
 
 -- ---- openings
@@ -29,10 +29,6 @@ use Rattle.stx_model.proofs.Traces.{leave, leave_throws, throw, mark_global, giv
 abbrev propagations : List Propagation
 propagations = Propagation.Required ∷ Propagation.Supports ∷ Propagation.Mandatory ∷ Propagation.RequiresNew
     ∷ Propagation.NotSupported ∷ Propagation.Never ∷ Propagation.Nested ∷ []
-
--- a live transaction, with these registrations where synchronisation is active
-abbrev with_transaction : Bool → Option (List Registration) → Context
-with_transaction marked syncs = record { tx = Some (record { connection = 1; transaction = 1; read_only = false; mark = marked }); syncs = syncs }
 
 -- bare; synchronisation alone; a live transaction; a live transaction that is marked
 abbrev contexts : Option (List Registration) → List Context
