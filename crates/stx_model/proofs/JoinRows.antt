@@ -1,44 +1,202 @@
--- Worked rows: scopes that join, marks, and savepoints.
-use Rattle.std.proofs.Common.{◌≡◌, ℕ, zero, suc, pos, true, false, List, [], ◌∷◌, Option, Some, None, refl}
-use Rattle.stx_scenario.specs.declared.classes.TheConstants.{RUNTIME_EXCEPTION, UNEXPECTED_ROLLBACK_EXCEPTION, CANNOT_CREATE_TRANSACTION_EXCEPTION, NO_TRANSACTION_EXCEPTION}
+-- Worked rows: scopes that join, marks, and exceptions that are caught.
+use Rattle.std.proofs.Common.{pos, [], ◌∷◌, Some, None, refl}
+use Rattle.stx_scenario.specs.declared.classes.TheConstants.{EXCEPTION, ERROR, RUNTIME_EXCEPTION, ILLEGAL_STATE_EXCEPTION, ILLEGAL_TRANSACTION_STATE_EXCEPTION, NO_TRANSACTION_EXCEPTION, UNEXPECTED_ROLLBACK_EXCEPTION}
 use Rattle.stx_scenario.specs.declared.scenario.Scenario.{Scenario}
 use Rattle.stx_scenario.specs.declared.scenario.Propagation.{Propagation}
 use Rattle.stx_scenario.specs.declared.scenario.Stmt.{Stmt}
-use Rattle.stx_base.specs.declared.history.Access.{Access}
 use Rattle.stx_base.specs.declared.history.Answer.{Answer}
-use Rattle.stx_base.specs.declared.history.PoolNote.{PoolNote}
-use Rattle.stx_base.specs.declared.history.StoreNote.{StoreNote}
-use Rattle.stx_base.specs.declared.line.Line.{Line}
-use Rattle.stx_base.specs.declared.manager.Kind.{Kind}
-use Rattle.stx_base.specs.declared.manager.Ending.{Ending}
-use Rattle.stx_base.specs.Rules.{winner, rolls_back}
-use Rattle.stx_base.specs.Weight.{longest, leads}
-use Rattle.stx_model.specs.Meanings.{ask}
-use Rattle.stx_model.specs.Opening.{opening}
-use Rattle.stx_model.specs.Ending.{completion}
-use Rattle.stx_model.specs.Listeners.{deeds}
-use Rattle.stx_model.specs.Rounds.{callback_statement, callback, told, stopping_round, swallowing_round}
-use Rattle.stx_model.specs.Scopes.{acts, completes, ends, in_scope, begins, opens, intercepted}
-use Rattle.stx_model.specs.Script.{script, tops, calls_below, invoked, body, statement, deals}
-use Rattle.stx_model.proofs.Small.{method_no, row, attribute_of, method, plainly, done}
+use Rattle.stx_model.proofs.Small.{m, n, p, a, required, supports, mandatory, requires_new, method, plainly, Says}
+use Rattle.stx_model.proofs.Traces.{top, call, call_plain, leave, leave_throws, throw, catch, rules_rollback_by, rules_keep_by, open_fresh_sync, open_join, end_commit, end_rollback, end_unexpected, mark, mark_global, take, give, unbind, bind, begin, write, commit, rollback}
 
 -- ---- a joined scope fails, and its caller catches the exception
 
 abbrev joined_failure : Scenario
 joined_failure = plainly (
-    method (attribute_of Propagation.Required) (Stmt.Call (method_no 1) (Some RUNTIME_EXCEPTION) ∷ [])
-    ∷ method (attribute_of Propagation.Required) (Stmt.Write (row 0) (pos 1) ∷ Stmt.Throw RUNTIME_EXCEPTION ∷ [])
+    method required (Stmt.Call n (Some RUNTIME_EXCEPTION) ∷ [])
+    ∷ method required (Stmt.Write a (pos 1) ∷ Stmt.Throw RUNTIME_EXCEPTION ∷ [])
     ∷ [])
 
-pub a_joined_failure_is_unexpected :
-    script joined_failure 0 (PoolNote.Taken 1 ∷ PoolNote.Given 1 ∷ [])
-    (StoreNote.Begin 1 ∷ StoreNote.Access 1 (Access.Write (row 0) (pos 1)) Answer.Done ∷ StoreNote.Rollback 1 ∷ [])
-    ≡ done (Line.Top 0 ∷ Line.Call (method_no 0) Propagation.Required false ∷ Line.Take (Some 1) ∷ Line.Begin 1
-    ∷ Line.Opened Kind.Fresh true ∷ Line.Call (method_no 1) Propagation.Required false ∷ Line.Opened Kind.Join false
-    ∷ Line.Row 1 (Access.Write (row 0) (pos 1)) Answer.Done ∷ Line.Throw RUNTIME_EXCEPTION ∷ Line.Rules true None
-    ∷ Line.End Ending.Rollback ∷ Line.MarkGlobal ∷ Line.Leave (method_no 1) (Some RUNTIME_EXCEPTION)
-    ∷ Line.Catch RUNTIME_EXCEPTION ∷ Line.End Ending.Unexpected ∷ Line.Rollback 1
-    ∷ Line.Throw UNEXPECTED_ROLLBACK_EXCEPTION ∷ Line.Give 1
-    ∷ Line.Leave (method_no 0) (Some UNEXPECTED_ROLLBACK_EXCEPTION) ∷ [])
-unfolding script tops calls_below invoked body statement callback_statement callback told stopping_round swallowing_round acts completes ends in_scope begins opens intercepted deals ask opening completion deeds longest leads winner rolls_back
+pub a_joined_failure_is_unexpected : Says joined_failure 0 (
+    top 0 ∷ call m Propagation.Required ∷ take 1 ∷ begin 1 ∷ open_fresh_sync
+    ∷ call n Propagation.Required ∷ open_join ∷ write 1 a (pos 1) Answer.Done ∷ throw RUNTIME_EXCEPTION ∷ rules_rollback_by None
+    ∷ end_rollback ∷ mark_global ∷ leave_throws n RUNTIME_EXCEPTION
+    ∷ catch RUNTIME_EXCEPTION
+    ∷ end_unexpected ∷ rollback 1 ∷ throw UNEXPECTED_ROLLBACK_EXCEPTION ∷ give 1 ∷ leave_throws m UNEXPECTED_ROLLBACK_EXCEPTION ∷ [])
+unfolding Says
 a_joined_failure_is_unexpected = refl
+
+-- ---- what else joins
+
+-- supports and mandatory join a live transaction, and commit nothing by themselves
+abbrev joining : Scenario
+joining = plainly (
+    method required (Stmt.Call n None ∷ Stmt.Call p None ∷ [])
+    ∷ method supports (Stmt.Write a (pos 1) ∷ [])
+    ∷ method mandatory []
+    ∷ [])
+
+pub supports_and_mandatory_join : Says joining 0 (
+    top 0 ∷ call m Propagation.Required ∷ take 1 ∷ begin 1 ∷ open_fresh_sync
+    ∷ call n Propagation.Supports ∷ open_join ∷ write 1 a (pos 1) Answer.Done ∷ end_commit ∷ leave n
+    ∷ call p Propagation.Mandatory ∷ open_join ∷ end_commit ∷ leave p
+    ∷ end_commit ∷ commit 1 1 ∷ give 1 ∷ leave m ∷ [])
+unfolding Says
+supports_and_mandatory_join = refl
+
+abbrev mandatory_alone : Scenario
+mandatory_alone = plainly (method mandatory [] ∷ [])
+
+pub mandatory_is_refused_without_a_transaction : Says mandatory_alone 0 (
+    top 0 ∷ call m Propagation.Mandatory ∷ throw ILLEGAL_TRANSACTION_STATE_EXCEPTION ∷ leave_throws m ILLEGAL_TRANSACTION_STATE_EXCEPTION ∷ [])
+unfolding Says
+mandatory_is_refused_without_a_transaction = refl
+
+-- ---- scopes under the global mark
+
+-- another scope joins the transaction after it was marked
+abbrev joined_after_failure : Scenario
+joined_after_failure = plainly (
+    method required (Stmt.Call n (Some RUNTIME_EXCEPTION) ∷ Stmt.Call p None ∷ [])
+    ∷ method required (Stmt.Throw RUNTIME_EXCEPTION ∷ [])
+    ∷ method required []
+    ∷ [])
+
+pub a_joined_scope_under_the_mark_marks_again_and_throws_nothing : Says joined_after_failure 0 (
+    top 0 ∷ call m Propagation.Required ∷ take 1 ∷ begin 1 ∷ open_fresh_sync
+    ∷ call n Propagation.Required ∷ open_join ∷ throw RUNTIME_EXCEPTION ∷ rules_rollback_by None
+    ∷ end_rollback ∷ mark_global ∷ leave_throws n RUNTIME_EXCEPTION
+    ∷ catch RUNTIME_EXCEPTION
+    ∷ call p Propagation.Required ∷ open_join ∷ end_unexpected ∷ mark_global ∷ leave p
+    ∷ end_unexpected ∷ rollback 1 ∷ throw UNEXPECTED_ROLLBACK_EXCEPTION ∷ give 1 ∷ leave_throws m UNEXPECTED_ROLLBACK_EXCEPTION ∷ [])
+unfolding Says
+a_joined_scope_under_the_mark_marks_again_and_throws_nothing = refl
+
+-- the outer body throws, after a joined scope marked its transaction; the rules keep that class
+abbrev kept_under_the_mark : Scenario
+kept_under_the_mark = plainly (
+    method required (Stmt.Call n (Some RUNTIME_EXCEPTION) ∷ Stmt.Throw EXCEPTION ∷ [])
+    ∷ method required (Stmt.Throw RUNTIME_EXCEPTION ∷ [])
+    ∷ [])
+
+pub the_unexpected_rollback_takes_the_place_of_a_kept_exception : Says kept_under_the_mark 0 (
+    top 0 ∷ call m Propagation.Required ∷ take 1 ∷ begin 1 ∷ open_fresh_sync
+    ∷ call n Propagation.Required ∷ open_join ∷ throw RUNTIME_EXCEPTION ∷ rules_rollback_by None
+    ∷ end_rollback ∷ mark_global ∷ leave_throws n RUNTIME_EXCEPTION
+    ∷ catch RUNTIME_EXCEPTION
+    ∷ throw EXCEPTION ∷ rules_keep_by None
+    ∷ end_unexpected ∷ rollback 1 ∷ throw UNEXPECTED_ROLLBACK_EXCEPTION ∷ give 1 ∷ leave_throws m UNEXPECTED_ROLLBACK_EXCEPTION ∷ [])
+unfolding Says
+the_unexpected_rollback_takes_the_place_of_a_kept_exception = refl
+
+-- the outer body throws what the rules roll back, after a joined scope marked its transaction
+abbrev failed_under_the_mark : Scenario
+failed_under_the_mark = plainly (
+    method required (Stmt.Call n None ∷ [])
+    ∷ method required (Stmt.Throw RUNTIME_EXCEPTION ∷ [])
+    ∷ [])
+
+pub a_failure_that_nobody_catches_is_the_one_that_leaves : Says failed_under_the_mark 0 (
+    top 0 ∷ call m Propagation.Required ∷ take 1 ∷ begin 1 ∷ open_fresh_sync
+    ∷ call n Propagation.Required ∷ open_join ∷ throw RUNTIME_EXCEPTION ∷ rules_rollback_by None
+    ∷ end_rollback ∷ mark_global ∷ leave_throws n RUNTIME_EXCEPTION
+    ∷ rules_rollback_by None ∷ end_rollback ∷ rollback 1 ∷ give 1 ∷ leave_throws m RUNTIME_EXCEPTION ∷ [])
+unfolding Says
+a_failure_that_nobody_catches_is_the_one_that_leaves = refl
+
+-- ---- marks
+
+abbrev marked : Scenario
+marked = plainly (method required (Stmt.Write a (pos 1) ∷ Stmt.Mark ∷ []) ∷ [])
+
+pub a_marked_scope_rolls_back_and_throws_nothing : Says marked 0 (
+    top 0 ∷ call m Propagation.Required ∷ take 1 ∷ begin 1 ∷ open_fresh_sync
+    ∷ write 1 a (pos 1) Answer.Done ∷ mark
+    ∷ end_rollback ∷ rollback 1 ∷ give 1 ∷ leave m ∷ [])
+unfolding Says
+a_marked_scope_rolls_back_and_throws_nothing = refl
+
+abbrev marked_without_a_scope : Scenario
+marked_without_a_scope = plainly (method None (Stmt.Mark ∷ []) ∷ [])
+
+pub a_mark_without_a_scope_is_refused : Says marked_without_a_scope 0 (
+    top 0 ∷ call_plain m ∷ throw NO_TRANSACTION_EXCEPTION ∷ leave_throws m NO_TRANSACTION_EXCEPTION ∷ [])
+unfolding Says
+a_mark_without_a_scope_is_refused = refl
+
+-- the inner call marks its own scope alone, and after it a plain method marks its caller's
+abbrev marks_of_two_scopes : Scenario
+marks_of_two_scopes = plainly (
+    method required (Stmt.Call n None ∷ Stmt.Call p None ∷ [])
+    ∷ method requires_new (Stmt.Mark ∷ [])
+    ∷ method None (Stmt.Mark ∷ [])
+    ∷ [])
+
+pub a_mark_is_that_of_the_nearest_scope : Says marks_of_two_scopes 0 (
+    top 0 ∷ call m Propagation.Required ∷ take 1 ∷ begin 1 ∷ open_fresh_sync
+    ∷ call n Propagation.RequiresNew ∷ unbind 1 ∷ take 2 ∷ begin 2 ∷ open_fresh_sync
+    ∷ mark ∷ end_rollback ∷ rollback 2 ∷ give 2 ∷ bind 1 ∷ leave n
+    ∷ call_plain p ∷ mark ∷ leave p
+    ∷ end_rollback ∷ rollback 1 ∷ give 1 ∷ leave m ∷ [])
+unfolding Says
+a_mark_is_that_of_the_nearest_scope = refl
+
+-- the same without the second mark
+abbrev mark_of_the_inner_scope : Scenario
+mark_of_the_inner_scope = plainly (
+    method required (Stmt.Call n None ∷ [])
+    ∷ method requires_new (Stmt.Mark ∷ [])
+    ∷ [])
+
+pub a_mark_ends_with_its_scope : Says mark_of_the_inner_scope 0 (
+    top 0 ∷ call m Propagation.Required ∷ take 1 ∷ begin 1 ∷ open_fresh_sync
+    ∷ call n Propagation.RequiresNew ∷ unbind 1 ∷ take 2 ∷ begin 2 ∷ open_fresh_sync
+    ∷ mark ∷ end_rollback ∷ rollback 2 ∷ give 2 ∷ bind 1 ∷ leave n
+    ∷ end_commit ∷ commit 1 1 ∷ give 1 ∷ leave m ∷ [])
+unfolding Says
+a_mark_ends_with_its_scope = refl
+
+-- a mark comes before a call of another scope, and is still there after it
+abbrev mark_round_a_call : Scenario
+mark_round_a_call = plainly (
+    method required (Stmt.Mark ∷ Stmt.Call n None ∷ [])
+    ∷ method requires_new []
+    ∷ [])
+
+pub a_mark_stays_over_an_inner_scope : Says mark_round_a_call 0 (
+    top 0 ∷ call m Propagation.Required ∷ take 1 ∷ begin 1 ∷ open_fresh_sync ∷ mark
+    ∷ call n Propagation.RequiresNew ∷ unbind 1 ∷ take 2 ∷ begin 2 ∷ open_fresh_sync
+    ∷ end_commit ∷ commit 2 1 ∷ give 2 ∷ bind 1 ∷ leave n
+    ∷ end_rollback ∷ rollback 1 ∷ give 1 ∷ leave m ∷ [])
+unfolding Says
+a_mark_stays_over_an_inner_scope = refl
+
+-- a joined scope marks itself, and its caller meets the global mark
+abbrev joined_mark : Scenario
+joined_mark = plainly (
+    method required (Stmt.Call n None ∷ [])
+    ∷ method required (Stmt.Mark ∷ [])
+    ∷ [])
+
+pub a_marked_joined_scope_marks_the_transaction : Says joined_mark 0 (
+    top 0 ∷ call m Propagation.Required ∷ take 1 ∷ begin 1 ∷ open_fresh_sync
+    ∷ call n Propagation.Required ∷ open_join ∷ mark ∷ end_rollback ∷ mark_global ∷ leave n
+    ∷ end_unexpected ∷ rollback 1 ∷ throw UNEXPECTED_ROLLBACK_EXCEPTION ∷ give 1 ∷ leave_throws m UNEXPECTED_ROLLBACK_EXCEPTION ∷ [])
+unfolding Says
+a_marked_joined_scope_marks_the_transaction = refl
+
+-- ---- catches
+
+-- a class above the thrown one catches it, and one that is no such class doesn't
+abbrev caught_above : Scenario
+caught_above = plainly (
+    method None (Stmt.Call n (Some RUNTIME_EXCEPTION) ∷ Stmt.Call n (Some ERROR) ∷ Stmt.Call n (Some EXCEPTION) ∷ [])
+    ∷ method None (Stmt.Throw ILLEGAL_STATE_EXCEPTION ∷ [])
+    ∷ [])
+
+pub a_catch_takes_its_class_and_those_below : Says caught_above 0 (
+    top 0 ∷ call_plain m
+    ∷ call_plain n ∷ throw ILLEGAL_STATE_EXCEPTION ∷ leave_throws n ILLEGAL_STATE_EXCEPTION ∷ catch ILLEGAL_STATE_EXCEPTION
+    ∷ call_plain n ∷ throw ILLEGAL_STATE_EXCEPTION ∷ leave_throws n ILLEGAL_STATE_EXCEPTION
+    ∷ leave_throws m ILLEGAL_STATE_EXCEPTION ∷ [])
+unfolding Says
+a_catch_takes_its_class_and_those_below = refl

@@ -5,7 +5,17 @@ pub mod SerialLocks
 pub mod SerialJournal
 pub mod SerialLaw
 pub mod Small
+pub mod Traces
+pub mod Tables
 pub mod JoinRows
+pub mod PointRows
+pub mod SuspensionRows
+pub mod CallbackRows
+pub mod ListenerRows
+pub mod PlainRows
+pub mod FlatRows
+pub mod ShopRow
+pub mod NoteRows
 pub mod FreshLaw
 pub mod Apart
 pub mod TooLate
