@@ -1,6 +1,5 @@
 -- Why locks are kept to the end: a store whose return to a savepoint frees the locks taken since is not serial.
-use Rattle.std.proofs.Common.{◌≡◌, ℕ, ℤ, pos, ◌<◌, ◌&&◌, ◌==◌, not, if◌then◌else◌, List, [], ◌∷◌, ◌++◌, Option, Some, None, refl, arith, IsTrue, filter, lit<}
-use Rattle.std.specs.Bool.{⊤}
+use Rattle.std.proofs.Common.{◌≡◌, ℕ, ℤ, pos, ◌<◌, ◌&&◌, ◌==◌, not, if◌then◌else◌, List, [], ◌∷◌, Option, Some, None, refl, arith, IsTrue, filter, lit<}
 use Rattle.std.specs.List.{fold}
 use Rattle.std.specs.FinMap.{get-insert}
 use Rattle.std.proofs.lemmas.Cmp.{nat_cmp_total}
@@ -14,7 +13,7 @@ use Rattle.stx_base.specs.Alone.{RowMap, row_of, finds, after, found_alone, answ
 use Rattle.stx_base.specs.Histories.{store_notes, store_notes_of}
 use Rattle.stx_base.specs.Pools.{contains}
 use Rattle.stx_base.specs.Stores.{live, is_busy, is_caller, smallest, busy_or, work, committed_rows, store_reply, store_want, store_proper}
-use Rattle.stx_base.specs.Legal.{StoreLegal}
+use Rattle.stx_base.specs.Legal.{LegalFrom, StoreLegal}
 use Rattle.stx_base.specs.Serial.{Serial}
 use Rattle.stx_model.proofs.SerialLaw.{journal_serial}
 use Rattle.stx_model.proofs.WorkedRows.{by, k, made_with}
@@ -68,10 +67,6 @@ pub record FreeingFits (clients : ℕ) (facts : StoreFacts) (before : List Store
   pub proper : IsTrue (store_proper (store_notes_of before entry.client) (store_want entry.note))
   pub reply : freeing_reply facts before (store_want entry.note) ≡ Some entry.note
 
-abbrev pub FreeingLegalFrom : ℕ → StoreFacts → List StoreEntry → List StoreEntry → Type 0
-FreeingLegalFrom clients facts before [] = ⊤
-FreeingLegalFrom clients facts before (e ∷ es) = FreeingFits clients facts before e × FreeingLegalFrom clients facts (before ++ e ∷ []) es
-
 -- ---- a history that it allows: a transaction reads a row twice, and another's write comes between
 
 abbrev pub read_twice : List StoreEntry
@@ -84,7 +79,7 @@ read_twice = by 0 (StoreNote.Begin 1) ∷ by 0 (StoreNote.Point 1)
     ∷ by 0 (StoreNote.Commit 1 2)
     ∷ []
 
-pub read_twice_fits : FreeingLegalFrom 2 (made_with (pos 7 ∷ [])) [] read_twice
+pub read_twice_fits : LegalFrom (FreeingFits 2 (made_with (pos 7 ∷ []))) [] read_twice
 unfolding freeing_reply store_reply store_proper
 read_twice_fits = (
   record { client = lit< tt; proper = refl; reply = refl },
@@ -121,7 +116,7 @@ read_twice_not_serial serial = never_alone _ (serial 1 _ refl)
 
 -- so the variant breaks the law
 pub freeing_locks_breaks_the_law :
-    ((clients : ℕ) (facts : StoreFacts) (history : List StoreEntry) → FreeingLegalFrom clients facts [] history → Serial facts history) → ⊥
+    ((clients : ℕ) (facts : StoreFacts) (history : List StoreEntry) → LegalFrom (FreeingFits clients facts) [] history → Serial facts history) → ⊥
 freeing_locks_breaks_the_law law = read_twice_not_serial (law 2 (made_with (pos 7 ∷ [])) read_twice read_twice_fits)
 
 -- and the store doesn't allow that history
