@@ -1,5 +1,6 @@
 // The text that answers a refused scenario.
 ghost use Rattle.std.specs.Prelude.{◌≡◌, ◌≢◌, ◌++◌, IfOk, codes};
+ghost use Rattle.stx_scenario.specs.Memory.{no_memory};
 ghost use Rattle.stx_base.specs.Lines.{line_feed};
 ghost use Rattle.stx_refusals.specs.Refusals.{refusal_text};
 
@@ -11,7 +12,7 @@ use stx_scenario::NoMemory;
 ///
 /// Want of memory is no refusal, and has no text.
 pub fn refusal_text(alloc: Global, fault: &ReadFault) -> Result<Vec<u8>, NoMemory>
-    requires { fault.now ≢ ReadFault.NoMemory }
+    requires { fault.now ≢ ReadFault.NoMemory no_memory }
     ensures { IfOk result (λ text. text.items ≡ refusal_text fault.now) }
 {
     match fault {
@@ -31,7 +32,7 @@ pub fn refusal_text(alloc: Global, fault: &ReadFault) -> Result<Vec<u8>, NoMemor
         ReadFault::CallCycle(method) => naming(alloc, "14 CallCycle", method),
         ReadFault::CallDepth(method) => naming(alloc, "15 CallDepth", method),
         ReadFault::TooLarge => alone(alloc, "16 TooLarge"),
-        ReadFault::NoMemory => unreachable!(),
+        ReadFault::NoMemory(_) => unreachable!(),
     }
 }
 

@@ -225,82 +225,154 @@ static CALLBACKS: [Line; 13] = [
     },
 ];
 
-const fn pool_entry(client: u32, note: PoolNote) -> PoolEntry {
-    PoolEntry { client, note }
-}
-
-const fn store_entry(client: u32, note: StoreNote) -> StoreEntry {
-    StoreEntry { client, note }
-}
-
-const fn own(access: Access, answer: Answer) -> StoreEntry {
-    store_entry(2, StoreNote::Auto { access, answer })
-}
-
 static POOL: [PoolEntry; 9] = [
-    pool_entry(0, PoolNote::Taken(1)),
-    pool_entry(1, PoolNote::Taken(2)),
-    pool_entry(1, PoolNote::Given(2)),
-    pool_entry(1, PoolNote::Taken(2)),
-    pool_entry(2, PoolNote::Empty),
-    pool_entry(1, PoolNote::Given(2)),
-    pool_entry(0, PoolNote::Given(1)),
-    pool_entry(1, PoolNote::Taken(1)),
-    pool_entry(1, PoolNote::Given(1)),
+    PoolEntry {
+        client: 0,
+        note: PoolNote::Taken(1),
+    },
+    PoolEntry {
+        client: 1,
+        note: PoolNote::Taken(2),
+    },
+    PoolEntry {
+        client: 1,
+        note: PoolNote::Given(2),
+    },
+    PoolEntry {
+        client: 1,
+        note: PoolNote::Taken(2),
+    },
+    PoolEntry {
+        client: 2,
+        note: PoolNote::Empty,
+    },
+    PoolEntry {
+        client: 1,
+        note: PoolNote::Given(2),
+    },
+    PoolEntry {
+        client: 0,
+        note: PoolNote::Given(1),
+    },
+    PoolEntry {
+        client: 1,
+        note: PoolNote::Taken(1),
+    },
+    PoolEntry {
+        client: 1,
+        note: PoolNote::Given(1),
+    },
 ];
 
 static STORE: [StoreEntry; 18] = [
-    store_entry(0, StoreNote::Begin(1)),
-    store_entry(
-        0,
-        StoreNote::Access {
+    StoreEntry {
+        client: 0,
+        note: StoreNote::Begin(1),
+    },
+    StoreEntry {
+        client: 0,
+        note: StoreNote::Access {
             tx: 1,
             access: Access::Write(A, 5),
             answer: Answer::Done,
         },
-    ),
-    store_entry(
-        1,
-        StoreNote::Auto {
+    },
+    StoreEntry {
+        client: 1,
+        note: StoreNote::Auto {
             access: Access::Read(A),
             answer: Answer::Busy(1),
         },
-    ),
-    store_entry(0, StoreNote::Point(1)),
-    store_entry(
-        0,
-        StoreNote::Access {
+    },
+    StoreEntry {
+        client: 0,
+        note: StoreNote::Point(1),
+    },
+    StoreEntry {
+        client: 0,
+        note: StoreNote::Access {
             tx: 1,
             access: Access::Write(A, 6),
             answer: Answer::Done,
         },
-    ),
-    store_entry(0, StoreNote::BackTo(1)),
-    store_entry(0, StoreNote::Release(1)),
-    store_entry(
-        1,
-        StoreNote::Auto {
+    },
+    StoreEntry {
+        client: 0,
+        note: StoreNote::BackTo(1),
+    },
+    StoreEntry {
+        client: 0,
+        note: StoreNote::Release(1),
+    },
+    StoreEntry {
+        client: 1,
+        note: StoreNote::Auto {
             access: Access::Write(C, -2),
             answer: Answer::Done,
         },
-    ),
-    store_entry(1, StoreNote::Begin(2)),
-    store_entry(
-        1,
-        StoreNote::Access {
+    },
+    StoreEntry {
+        client: 1,
+        note: StoreNote::Begin(2),
+    },
+    StoreEntry {
+        client: 1,
+        note: StoreNote::Access {
             tx: 2,
             access: Access::Erase(C),
             answer: Answer::Done,
         },
-    ),
-    store_entry(0, StoreNote::Commit { tx: 1, number: 2 }),
-    store_entry(1, StoreNote::Rollback(2)),
-    own(Access::Read(D), Answer::Absent),
-    own(Access::Write(D, 0), Answer::Done),
-    own(Access::Read(D), Answer::Found(0)),
-    own(Access::Erase(D), Answer::Done),
-    own(Access::Erase(A), Answer::Busy(1)),
-    own(Access::Write(A, 9), Answer::Busy(1)),
+    },
+    StoreEntry {
+        client: 0,
+        note: StoreNote::Commit { tx: 1, number: 2 },
+    },
+    StoreEntry {
+        client: 1,
+        note: StoreNote::Rollback(2),
+    },
+    StoreEntry {
+        client: 2,
+        note: StoreNote::Auto {
+            access: Access::Read(D),
+            answer: Answer::Absent,
+        },
+    },
+    StoreEntry {
+        client: 2,
+        note: StoreNote::Auto {
+            access: Access::Write(D, 0),
+            answer: Answer::Done,
+        },
+    },
+    StoreEntry {
+        client: 2,
+        note: StoreNote::Auto {
+            access: Access::Read(D),
+            answer: Answer::Found(0),
+        },
+    },
+    StoreEntry {
+        client: 2,
+        note: StoreNote::Auto {
+            access: Access::Erase(D),
+            answer: Answer::Done,
+        },
+    },
+    StoreEntry {
+        client: 2,
+        note: StoreNote::Auto {
+            access: Access::Erase(A),
+            answer: Answer::Busy(1),
+        },
+    },
+    StoreEntry {
+        client: 2,
+        note: StoreNote::Auto {
+            access: Access::Write(A, 9),
+            answer: Answer::Busy(1),
+        },
+    },
 ];
 
 fn lines_of(alloc: Global, lines: &[Line]) -> Result<ClientLines, NoMemory> {

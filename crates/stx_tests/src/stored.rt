@@ -12,7 +12,9 @@ const ROW: RowNo = RowNo(0);
 #[tactic(auto, unfolding(stx_base::specs::Stores::store_proper))]
 fn entries(rt: &impl Abort, alloc: Global) -> List<StoreEntry> {
     let mut store = StoreCore::new(alloc, &List::new(alloc)).expect(rt, "memory");
-    store.auto(alloc, 1, Access::Write(ROW, 5)).expect(rt, "memory");
+    store
+        .auto(alloc, 1, Access::Write(ROW, 5))
+        .expect(rt, "memory");
     let session = store.begin(alloc, 0).expect(rt, "memory");
     store.point(alloc, 0, session.number()).expect(rt, "memory");
     store.back_to(0, session.number());

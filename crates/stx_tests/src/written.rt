@@ -9,7 +9,10 @@ fn a_sink_takes_what_it_has_room_for(rt: HostRuntime) -> Result<(), Fail> {
     let ended = write_whole(&mut sink, b"a text of forty-two bytes, in three pieces");
     assert_eq!(rt;
         (ended.is_ok(), sink.taken()),
-        (false, b"a text of forty-two bytes, in three piece".as_slice())
+        (
+            false,
+            b"a text of forty-two bytes, in three piece".as_slice()
+        )
     );
     Ok(())
 }
