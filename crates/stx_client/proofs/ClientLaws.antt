@@ -14,15 +14,17 @@ use Rattle.stx_base.specs.declared.manager.Ending.{Ending}
 use Rattle.stx_model.specs.Meanings.{Stops, state_of, stop_of, and_then, finally, ask}
 use Rattle.stx_base.specs.Weight.{body_of}
 use Rattle.stx_model.specs.Script.{script, tops, calls_of, body, access_row, completes, gives_back, begins, fresh}
-use Rattle.stx_model.specs.Reads.{ReadsAll}
+use Rattle.stx_model.specs.Reads.{ReadsAll, StartsWith}
 use Rattle.stx_model.proofs.Growth.{Grows, finally_grows, and_then_grows, access_grows, nothing_grows, needed_grows, added_grows, body_grows, ends_grows, gives_back_grows, completes_grows, begins_grows, fresh_grows, tops_grows}
 use Rattle.stx_client.specs.declared.stage.Then.{Then}
 use Rattle.stx_client.specs.declared.stage.Stage.{Stage}
 use Rattle.stx_client.specs.declared.stage.At.{At}
-use Rattle.stx_client.specs.Machine.{state, attribute_of, context_of, want_of, does, ending, means, run}
+use Rattle.stx_client.specs.Machine.{state, attribute_of, context_of, want_of, does, ending, means, run, Hears}
 use Rattle.stx_client.specs.Holding.{has_failed}
-use Rattle.stx_base.specs.Notes.{is_reply}
-use Rattle.stx_client.specs.View.{Playing, Keeps, StartsWith, script_of}
+use Rattle.stx_base.specs.declared.history.Note.{Note}
+use Rattle.stx_base.specs.Notes.{is_reply, note_line, note_of}
+use Rattle.stx_client.specs.View.{ClientView, script_of, pool_with, store_with, has_told, with_note, fed}
+use Rattle.stx_client.specs.Keeps.{Keeps}
 
 -- ---- growth
 
@@ -83,30 +85,30 @@ module _ (S : Scenario) (n : ℕ) (at : At) (lines : List Line) (pool : List Poo
   pub reads_now : has_failed at.stage ≡ false → ReadsAll S n pool store
   reads_now ok = record { pool_read = ap (λ r. (state_of r).pool) (stops_now ok); store_read = ap (λ r. (state_of r).store) (stops_now ok) }
 
+  pub said_now : has_failed at.stage ≡ false → lines ≡ (state_of (script S n pool store)).lines
+  said_now ok = sym (ap (λ r. (state_of r).lines) (stops_now ok))
+
   pub starts_now : StartsWith (state_of (script S n pool store)).lines lines
   starts_now =
       let (more, is) = run_starts S n at lines [] [] in
       (more, ap (λ r. (state_of r).lines) runs_now ∙ is)
 
-  -- a note of the pool more
-  pub starts_with_pool : (note : PoolNote) → StartsWith (state_of (script S n (pool ++ note ∷ []) store)).lines lines
-  starts_with_pool note =
+  -- a note more: the lines are still the beginning of the script's
+  pub starts_with : (note : Note) → StartsWith (state_of (script S n (pool_with pool note) (store_with store note))).lines lines
+  starts_with (Note.Pool note) =
       let (more, is) = run_starts S n at lines (note ∷ []) [] in
       (more, ap (λ r. (state_of r).lines) (ap (script S n (pool ++ note ∷ [])) (sym (append-nil store)) ∙ runs (note ∷ []) []) ∙ is)
-
-  pub runs_with_pool : (note : PoolNote) (new : At) (after : List Line) → ((p : List PoolNote) (s : List StoreNote) → run S n at lines (note ∷ p) s ≡ run S n new after p s)
-      → RunsOn S n new after (pool ++ note ∷ []) store
-  runs_with_pool note new after goes p s = ap (λ ps. script S n ps (store ++ s)) (append_assoc pool (note ∷ []) p) ∙ runs (note ∷ p) s ∙ goes p s
-
-  -- a note of the store more
-  pub starts_with_store : (note : StoreNote) → StartsWith (state_of (script S n pool (store ++ note ∷ []))).lines lines
-  starts_with_store note =
+  starts_with (Note.Store note) =
       let (more, is) = run_starts S n at lines [] (note ∷ []) in
       (more, ap (λ r. (state_of r).lines) (ap (λ ps. script S n ps (store ++ note ∷ [])) (sym (append-nil pool)) ∙ runs [] (note ∷ [])) ∙ is)
 
-  pub runs_with_store : (note : StoreNote) (new : At) (after : List Line) → ((p : List PoolNote) (s : List StoreNote) → run S n at lines p (note ∷ s) ≡ run S n new after p s)
-      → RunsOn S n new after pool (store ++ note ∷ [])
-  runs_with_store note new after goes p s = ap (script S n (pool ++ p)) (append_assoc store (note ∷ []) s) ∙ runs p (note ∷ s) ∙ goes p s
+  -- and the machine that has heard it is what is left
+  pub runs_with : (note : Note) (said : List Line) (new : At) (after : List Line) → said ≡ lines ++ note_line note ∷ [] → Hears S n note at said new after
+      → RunsOn S n new after (pool_with pool note) (store_with store note)
+  runs_with (Note.Pool note) said new after line goes p s =
+      ap (λ ps. script S n ps (store ++ s)) (append_assoc pool (note ∷ []) p) ∙ runs (note ∷ p) s ∙ goes lines line p s
+  runs_with (Note.Store note) said new after line goes p s =
+      ap (script S n (pool ++ p)) (append_assoc store (note ∷ []) s) ∙ runs p (note ∷ s) ∙ goes lines line p s
 
 -- a stage that isn't done and hasn't failed wants one of these calls
 pub wants_one : (stage : Stage) (w : Want) → w ≡ want_of stage → has_failed stage ≡ false → (w ≡ Want.Done → ⊥) → (w ≡ Want.Take → ⊥) → ((c : ℕ) → w ≡ Want.Give c → ⊥) → (w ≡ Want.Begin → ⊥)
@@ -123,11 +125,11 @@ wants_one Stage.Failed w is ok done take give begin access commit rollback = cc
 
 -- ---- what the view tells
 
-abbrev pub view_of : Scenario → ℕ → At → Bool → List PoolNote → List StoreNote → Playing
-view_of S n at out pool store = record { scenario = S; number = n; pool = pool; store = store; out = if out then Some (want_of at.stage) else None; failed = has_failed at.stage }
+abbrev pub view_of : Scenario → ℕ → At → Bool → List Line → List PoolNote → List StoreNote → ClientView
+view_of S n at out lines pool store = record { scenario = S; number = n; pool = pool; store = store; out = if out then Some (want_of at.stage) else None; failed = has_failed at.stage; said = lines }
 
-module _ {S : Scenario} {n : ℕ} {at : At} {lines : List Line} {pool : List PoolNote} {store : List StoreNote} (keeps : Keeps S n at lines pool store) (out : Bool) (client : Playing)
-    (view : view_of S n at out pool store ≡ client) (ok : client.failed ≡ false) where
+module _ {S : Scenario} {n : ℕ} {at : At} {lines : List Line} {pool : List PoolNote} {store : List StoreNote} (keeps : Keeps S n at lines pool store) (out : Bool) (client : ClientView)
+    (view : view_of S n at out lines pool store ≡ client) (ok : client.failed ≡ false) where
   pub going : has_failed at.stage ≡ false
   going = ap (λ v. v.failed) view ∙ ok
 
@@ -141,6 +143,19 @@ module _ {S : Scenario} {n : ℕ} {at : At} {lines : List Line} {pool : List Poo
       by_out : (b : Bool) → is_reply (if b then Some (want_of at.stage) else None) reply ≡ true → b ≡ true
       by_out true is = refl
       by_out false is = is
+
+-- a client that has heard a note and said all of its script has been fed
+pub fed_is : (S : Scenario) (n : ℕ) (at : At) (out : Bool) (lines : List Line) (pool : List PoolNote) (store : List StoreNote) (client : ClientView) (reply : Reply) (note : Note)
+    (new : At) (after : List Line) (pool' : List PoolNote) (store' : List StoreNote) → view_of S n at out lines pool store ≡ client → out ≡ true
+    → has_failed at.stage ≡ false → note_of (want_of at.stage) reply ≡ Some note → pool' ≡ pool_with pool note → store' ≡ store_with store note
+    → has_failed new.stage ≡ false → after ≡ (state_of (script S n pool' store')).lines → view_of S n new false after pool' store' ≡ fed client reply
+fed_is S n at out lines pool store client reply note new after pool' store' view is_out ok is pool_is store_is new_ok said =
+    let same : has_failed new.stage ≡ has_failed at.stage = new_ok ∙ sym ok in
+    let told : after ≡ (state_of (script S n (pool_with pool note) (store_with store note))).lines = said ∙ (λ j. (state_of (script S n (pool_is j) (store_is j))).lines) in
+    (λ j. record { scenario = S; number = n; pool = pool_is j; store = store_is j; out = None; failed = same j; said = told j })
+    ∙ ap (λ o. has_told (with_note (view_of S n at true lines pool store) o)) (sym is)
+    ∙ ap (λ b. fed (view_of S n at b lines pool store) reply) (sym is_out)
+    ∙ ap (λ v. fed v reply) view
 
 pub not_failed : {X : Type 0} → true ≡ false → X
 not_failed is = absurd (false≢true (sym is))

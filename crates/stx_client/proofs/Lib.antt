@@ -3,5 +3,4 @@ pub mod TurnLaws
 pub mod SumLaws
 pub mod ClientLaws
 pub mod HoldingLaws
-pub mod ReplyLaws
 pub mod FixtureLaws

@@ -13,7 +13,7 @@ use Rattle.stx_base.specs.declared.history.StoreNote.{StoreNote}
 use Rattle.stx_base.specs.declared.line.Line.{Line}
 use Rattle.stx_base.specs.declared.manager.Ending.{Ending}
 use Rattle.stx_model.specs.Contexts.{Context, bare}
-use Rattle.stx_base.specs.Notes.{is_answer, pool_answers, store_answers, store_line}
+use Rattle.stx_base.specs.Notes.{is_answer, pool_answers, store_answers, pool_line, store_line}
 use Rattle.stx_base.specs.declared.history.Note.{Note}
 use Rattle.stx_model.specs.Meanings.{State, Result, Breaks, Meaning, unread, hear, heard, answered, on_access, ask}
 use Rattle.stx_model.specs.Script.{unless_busy, access_row, leaves, gives_back, ending_call, completes, opened, begins, fresh}
@@ -21,7 +21,7 @@ use Rattle.stx_client.specs.declared.stage.Scope.{Scope}
 use Rattle.stx_client.specs.declared.stage.Then.{Then}
 use Rattle.stx_client.specs.declared.stage.Stage.{Stage}
 use Rattle.stx_client.specs.declared.stage.At.{At}
-use Rattle.stx_client.specs.Machine.{state, attribute_of, scope_context, context_of, want_of, does, means, hears, rest_of_body, later_calls, run, IsIn, Comes, Runs, Opens, HearsPool}
+use Rattle.stx_client.specs.Machine.{state, attribute_of, scope_context, context_of, want_of, does, means, hears, rest_of_body, later_calls, run, IsIn, Comes, Runs, Opens}
 
 -- ---- asking
 
@@ -91,62 +91,64 @@ pub within : (S : Scenario) (n top : ℕ) (scope : Scope) (stage : Stage) (lines
 within S n top scope stage lines pool store is =
     ap (λ c. later_calls S n top (means S stage (state lines c pool store))) (sym (context_is S scope stage is))
 
-module _ (S : Scenario) (n : ℕ) (at : At) (before after : List Line) where
-  pub hears_taken : (note : PoolNote) (m : MethodNo) (c : ℕ) → at.stage ≡ Stage.Opening m → note ≡ PoolNote.Taken c → after ≡ before ++ Line.Take (Some c) ∷ []
-      → HearsPool S n note at before (record { top = at.top; stage = Stage.Beginning m c }) after
-  hears_taken note m c stage is said pool store =
+-- each note, once its line is said
+module _ (S : Scenario) (n : ℕ) (at : At) (said before : List Line) (pool : List PoolNote) (store : List StoreNote) where
+  pub hears_taken : (note : PoolNote) (m : MethodNo) (c : ℕ) → at.stage ≡ Stage.Opening m → note ≡ PoolNote.Taken c → said ≡ before ++ pool_line note ∷ []
+      → run S n at before (note ∷ pool) store ≡ run S n (record { top = at.top; stage = Stage.Beginning m c }) said pool store
+  hears_taken note m c stage is line =
       (λ i. run S n (record { top = at.top; stage = stage i }) before (is i ∷ pool) store)
       ∙ ap (later_calls S n at.top) (taken_next S m before bare pool store (attribute_of S m) c)
-      ∙ ap (λ ls. run S n (record { top = at.top; stage = Stage.Beginning m c }) ls pool store) (sym said)
+      ∙ ap (λ ls. run S n (record { top = at.top; stage = Stage.Beginning m c }) ls pool store) (ap (λ p. before ++ pool_line p ∷ []) (sym is) ∙ sym line)
 
-  pub hears_empty : (note : PoolNote) (m : MethodNo) (next : At) (last : List Line) → at.stage ≡ Stage.Opening m → note ≡ PoolNote.Empty
-      → after ≡ (before ++ Line.Take None ∷ []) ++ Line.Throw CANNOT_CREATE_TRANSACTION_EXCEPTION ∷ []
-      → Runs S n bare (λ st. later_calls S n at.top (leaves m (Some CANNOT_CREATE_TRANSACTION_EXCEPTION) st)) after next last
-      → HearsPool S n note at before next last
-  hears_empty note m next last stage is said goes pool store =
+  pub hears_empty : (note : PoolNote) (m : MethodNo) (thrown : List Line) (next : At) (last : List Line) → at.stage ≡ Stage.Opening m → note ≡ PoolNote.Empty
+      → said ≡ before ++ pool_line note ∷ [] → thrown ≡ said ++ Line.Throw CANNOT_CREATE_TRANSACTION_EXCEPTION ∷ []
+      → Runs S n bare (λ st. later_calls S n at.top (leaves m (Some CANNOT_CREATE_TRANSACTION_EXCEPTION) st)) thrown next last
+      → run S n at before (note ∷ pool) store ≡ run S n next last pool store
+  hears_empty note m thrown next last stage is line threw goes =
       (λ i. run S n (record { top = at.top; stage = stage i }) before (is i ∷ pool) store)
       ∙ ap (later_calls S n at.top) (empty_next S m before bare pool store (attribute_of S m))
-      ∙ ap (λ ls. later_calls S n at.top (leaves m (Some CANNOT_CREATE_TRANSACTION_EXCEPTION) (state ls bare pool store))) (sym said)
+      ∙ ap (λ ls. later_calls S n at.top (leaves m (Some CANNOT_CREATE_TRANSACTION_EXCEPTION) (state ls bare pool store)))
+          (ap (λ ls. ls ++ Line.Throw CANNOT_CREATE_TRANSACTION_EXCEPTION ∷ []) (ap (λ p. before ++ pool_line p ∷ []) (sym is) ∙ sym line) ∙ sym threw)
       ∙ goes pool store
 
   pub hears_given : (note : PoolNote) (scope : Scope) (x : Option ClassNo) (d : ℕ) (next : At) (last : List Line) → at.stage ≡ Stage.GivingBack scope x → note ≡ PoolNote.Given d
-      → pool_answers (want_of at.stage) note ≡ true → after ≡ before ++ Line.Give d ∷ []
-      → Runs S n bare (λ st. later_calls S n at.top (leaves scope.method x st)) after next last
-      → HearsPool S n note at before next last
-  hears_given note scope x d next last stage is answers said goes pool store =
+      → pool_answers (want_of at.stage) note ≡ true → said ≡ before ++ pool_line note ∷ []
+      → Runs S n bare (λ st. later_calls S n at.top (leaves scope.method x st)) said next last
+      → run S n at before (note ∷ pool) store ≡ run S n next last pool store
+  hears_given note scope x d next last stage is answers line goes =
       let suits : pool_answers (Want.Give scope.connection) (PoolNote.Given d) ≡ true = (λ i. pool_answers (want_of (sym stage i)) (sym is i)) ∙ answers in
       (λ i. run S n (record { top = at.top; stage = stage i }) before (is i ∷ pool) store)
       ∙ ap (later_calls S n at.top) (given_next S scope.method before (scope_context S scope) pool store scope.connection d x suits)
-      ∙ ap (λ ls. later_calls S n at.top (leaves scope.method x (state ls bare pool store))) (sym said)
+      ∙ ap (λ ls. later_calls S n at.top (leaves scope.method x (state ls bare pool store))) (ap (λ p. before ++ pool_line p ∷ []) (sym is) ∙ sym line)
       ∙ goes pool store
 
   pub hears_begun : (note : StoreNote) (m : MethodNo) (c t : ℕ) (stage : Stage) (last : List Line) → at.stage ≡ Stage.Beginning m c → note ≡ StoreNote.Begin t
-      → after ≡ before ++ Line.Begin t ∷ [] → (let scope : Scope = record { method = m; connection = c; tx = t } in Opens S scope after stage last → IsIn scope stage
-      → (pool : List PoolNote) (store : List StoreNote) → run S n at before pool (note ∷ store) ≡ run S n (record { top = at.top; stage = stage }) last pool store)
-  hears_begun note m c t stage last was is said goes inside pool store =
+      → said ≡ before ++ store_line note ∷ [] → (let scope : Scope = record { method = m; connection = c; tx = t } in Opens S scope said stage last → IsIn scope stage
+      → run S n at before pool (note ∷ store) ≡ run S n (record { top = at.top; stage = stage }) last pool store)
+  hears_begun note m c t stage last was is line goes inside =
       let scope : Scope = record { method = m; connection = c; tx = t } in
       (λ i. run S n (record { top = at.top; stage = was i }) before pool (is i ∷ store))
       ∙ ap (later_calls S n at.top) (begun_next S m before bare pool store (attribute_of S m) c t
-      ∙ ap (λ ls. opened S m (attribute_of S m) c t (state ls bare pool store)) (sym said) ∙ goes pool store)
+      ∙ ap (λ ls. opened S m (attribute_of S m) c t (state ls bare pool store)) (ap (λ p. before ++ store_line p ∷ []) (sym is) ∙ sym line) ∙ goes pool store)
       ∙ within S n at.top scope stage last pool store inside
 
   pub hears_answer : (note : StoreNote) (scope : Scope) (a b : Access) (d : Then) (next t : ℕ) (r : Answer) (stage : Stage) (last : List Line)
       → at.stage ≡ Stage.Accessing scope a d next → note ≡ StoreNote.Access t b r → store_answers (want_of at.stage) note ≡ true
-      → after ≡ before ++ Line.Row t b r ∷ [] → Comes S scope (hears S scope d next r) after stage last → IsIn scope stage
-      → (pool : List PoolNote) (store : List StoreNote) → run S n at before pool (note ∷ store) ≡ run S n (record { top = at.top; stage = stage }) last pool store
-  hears_answer note scope a b d next t r stage last was is answers said goes inside pool store =
+      → said ≡ before ++ store_line note ∷ [] → Comes S scope (hears S scope d next r) said stage last → IsIn scope stage
+      → run S n at before pool (note ∷ store) ≡ run S n (record { top = at.top; stage = stage }) last pool store
+  hears_answer note scope a b d next t r stage last was is answers line goes inside =
       let suits : store_answers (Want.Access scope.tx a) (StoreNote.Access t b r) ≡ true = (λ i. store_answers (want_of (sym was i)) (sym is i)) ∙ answers in
       (λ i. run S n (record { top = at.top; stage = was i }) before pool (is i ∷ store))
       ∙ ap (λ res. later_calls S n at.top (rest_of_body S scope next res)) (answer_next S scope.method before (scope_context S scope) pool store scope.tx t a b r (does scope.tx d) suits)
-      ∙ ap (later_calls S n at.top) (ap (λ ls. hears S scope d next r (state ls (scope_context S scope) pool store)) (sym said) ∙ goes pool store)
+      ∙ ap (later_calls S n at.top)
+          (ap (λ ls. hears S scope d next r (state ls (scope_context S scope) pool store)) (ap (λ p. before ++ store_line p ∷ []) (sym is) ∙ sym line) ∙ goes pool store)
       ∙ within S n at.top scope stage last pool store inside
 
   pub hears_end : (note : StoreNote) (scope : Scope) (e : Ending) (x : Option ClassNo) → at.stage ≡ Stage.Completing scope e x
-      → store_answers (want_of at.stage) note ≡ true → after ≡ before ++ store_line note ∷ []
-      → (pool : List PoolNote) (store : List StoreNote)
-      → run S n at before pool (note ∷ store) ≡ run S n (record { top = at.top; stage = Stage.GivingBack scope x }) after pool store
-  hears_end note scope e x was answers said pool store =
+      → store_answers (want_of at.stage) note ≡ true → said ≡ before ++ store_line note ∷ []
+      → run S n at before pool (note ∷ store) ≡ run S n (record { top = at.top; stage = Stage.GivingBack scope x }) said pool store
+  hears_end note scope e x was answers line =
       let suits : store_answers (ending_call scope.tx e) note ≡ true = ap (λ s. store_answers (want_of s) note) (sym was) ∙ answers in
       ap (λ s. run S n (record { top = at.top; stage = s }) before pool (note ∷ store)) was
       ∙ ap (later_calls S n at.top) (ended_next S scope.method before (scope_context S scope) pool store scope.connection scope.tx e x note suits)
-      ∙ ap (λ ls. run S n (record { top = at.top; stage = Stage.GivingBack scope x }) ls pool store) (sym said)
+      ∙ ap (λ ls. run S n (record { top = at.top; stage = Stage.GivingBack scope x }) ls pool store) (sym line)

@@ -2,7 +2,9 @@
 use Rattle.std.specs.Prelude.{◌≡◌, ℕ, Bool, true, false, Option, Some, None, ⊤}
 use Rattle.stx_base.specs.declared.history.PoolNote.{PoolNote}
 use Rattle.stx_base.specs.declared.history.StoreNote.{StoreNote}
+use Rattle.stx_base.specs.declared.history.Note.{Note}
 use Rattle.stx_client.specs.declared.stage.Stage.{Stage}
+use Rattle.stx_client.specs.declared.tokens.Tokens.{Tokens}
 
 -- a call that is out has taken along the token that it spends
 abbrev pub holds_connection : Bool → Stage → Option ℕ
@@ -28,19 +30,20 @@ IsBetween Stage.Done = ⊤
 IsBetween _ = ⊥
 
 -- a taking brings a connection, and a begin a session
-abbrev pub with_taken : PoolNote → Option ℕ → Option ℕ
-with_taken (PoolNote.Taken c) held = Some c
-with_taken _ held = held
+abbrev pub connection_after : Note → Option ℕ → Option ℕ
+connection_after (Note.Pool (PoolNote.Taken c)) held = Some c
+connection_after _ held = held
 
-abbrev pub with_begun : StoreNote → Option ℕ → Option ℕ
-with_begun (StoreNote.Begin t) held = Some t
-with_begun _ held = held
+abbrev pub session_after : Note → Option ℕ → Option ℕ
+session_after (Note.Store (StoreNote.Begin t)) held = Some t
+session_after _ held = held
+
+-- what is held with what the note brings
+abbrev pub tokens_after : Note → Tokens → Tokens
+tokens_after note held = record { connection = connection_after note held.connection; session = session_after note held.session }
 
 -- from a stage whose call was out to the next, with what its note brings
-pub record Passes (old new : Stage) (taken begun : Option ℕ → Option ℕ) : Type 0 where
-  pub connection : holds_connection false new ≡ taken (holds_connection true old)
-  pub session : holds_session false new ≡ begun (holds_session true old)
+pub record Passes (old new : Stage) (note : Note) : Type 0 where
+  pub connection : holds_connection false new ≡ connection_after note (holds_connection true old)
+  pub session : holds_session false new ≡ session_after note (holds_session true old)
   pub going : has_failed new ≡ false
-
-abbrev pub nothing_new : Option ℕ → Option ℕ
-nothing_new held = held

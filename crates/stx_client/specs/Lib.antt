@@ -1,4 +1,5 @@
 pub mod Machine
 pub mod Holding
 pub mod View
+pub mod Keeps
 pub mod Fixture

@@ -1,5 +1,5 @@
 -- What is left of a client's script at each stage of its machine.
-use Rattle.std.specs.Prelude.{◌≡◌, ℕ, ◌+◌, ℤ, ◌+ℤ◌, if◌then◌else◌, ◌<◌, false, List, ◌∷◌, drop, length, Option, Some, None, unwrap_or, ⊤}
+use Rattle.std.specs.Prelude.{◌≡◌, ℕ, ◌+◌, ℤ, ◌+ℤ◌, if◌then◌else◌, ◌<◌, false, List, [], ◌∷◌, ◌++◌, drop, length, Option, Some, None, unwrap_or, ⊤}
 use Rattle.stx_scenario.specs.declared.numbers.ClassNo.{ClassNo}
 use Rattle.stx_scenario.specs.declared.numbers.MethodNo.{MethodNo}
 use Rattle.stx_scenario.specs.declared.scenario.Scenario.{Scenario}
@@ -10,7 +10,10 @@ use Rattle.stx_base.specs.declared.history.Access.{Access}
 use Rattle.stx_base.specs.declared.history.Answer.{Answer}
 use Rattle.stx_base.specs.declared.history.PoolNote.{PoolNote}
 use Rattle.stx_base.specs.declared.history.StoreNote.{StoreNote}
+use Rattle.stx_base.specs.declared.history.Note.{Note}
 use Rattle.stx_base.specs.declared.line.Line.{Line}
+use Rattle.stx_base.specs.Limits.{most_calls}
+use Rattle.stx_base.specs.Notes.{pool_line, store_line}
 use Rattle.stx_base.specs.Attributes.{attribute}
 use Rattle.stx_model.specs.Contexts.{Context, bare}
 use Rattle.stx_model.specs.Meanings.{State, Result, Stops, Breaks, Meaning, and_then, finally}
@@ -92,9 +95,9 @@ abbrev pub hears : Scenario → Scope → Then → ℕ → Answer → Meaning
 hears S scope d next answer st = rest_of_body S scope next (unless_busy (does scope.tx d) answer st)
 
 -- the class is one that there is
-abbrev pub is_known : Scenario → Option ClassNo → Type 0
-is_known S None = ⊤
-is_known S (Some x) = x.0 < length S.classes
+abbrev pub IsClass : Scenario → Option ClassNo → Type 0
+IsClass S None = ⊤
+IsClass S (Some x) = x.0 < length S.classes
 
 -- what is left of the call under way
 abbrev pub means : Scenario → Stage → Meaning
@@ -125,9 +128,9 @@ run S n at lines pool store = left S n at (state lines (context_of S at.stage) p
 abbrev pub IsMethod : Scenario → MethodNo → Type 0
 IsMethod S m = m.0 < length S.methods
 
--- the call under way is one of a client's 64, and of a method that there is
+-- the call under way is one of a client's, and of a method that there is
 abbrev pub IsCall : Scenario → ℕ → MethodNo → Type 0
-IsCall S top m = IsMethod S m × (top < 64)
+IsCall S top m = IsMethod S m × (top < most_calls)
 
 abbrev pub IsSound : Scenario → ℕ → Stage → Type 0
 IsSound S top (Stage.Opening m) = IsCall S top m
@@ -162,11 +165,19 @@ Runs S n context meaning before at after =
     (pool : List PoolNote) (store : List StoreNote) → meaning (state before context pool store) ≡ run S n at after pool store
 
 -- a note of the pool takes one machine to the other, whatever notes are still to come; likewise a note of the store,
--- whichever the client is
+-- whichever the client is. Its line was said just before
 abbrev pub HearsPool : Scenario → ℕ → PoolNote → At → List Line → At → List Line → Type 0
-HearsPool S n note old before new after =
-    (pool : List PoolNote) (store : List StoreNote) → run S n old before (note ∷ pool) store ≡ run S n new after pool store
+HearsPool S n note old said new after =
+    (before : List Line) → said ≡ before ++ pool_line note ∷ []
+    → (pool : List PoolNote) (store : List StoreNote) → run S n old before (note ∷ pool) store ≡ run S n new after pool store
 
 abbrev pub HearsStore : Scenario → StoreNote → At → List Line → At → List Line → Type 0
-HearsStore S note old before new after =
-    (n : ℕ) (pool : List PoolNote) (store : List StoreNote) → run S n old before pool (note ∷ store) ≡ run S n new after pool store
+HearsStore S note old said new after =
+    (n : ℕ) (before : List Line) → said ≡ before ++ store_line note ∷ []
+    → (pool : List PoolNote) (store : List StoreNote) → run S n old before pool (note ∷ store) ≡ run S n new after pool store
+
+abbrev pub Hears : Scenario → ℕ → Note → At → List Line → At → List Line → Type 0
+Hears S n (Note.Pool note) old said new after = HearsPool S n note old said new after
+Hears S n (Note.Store note) old said new after =
+    (before : List Line) → said ≡ before ++ store_line note ∷ []
+    → (pool : List PoolNote) (store : List StoreNote) → run S n old before pool (note ∷ store) ≡ run S n new after pool store

@@ -1,5 +1,6 @@
 // The calls of a client, one after the other.
 ghost use Rattle.std.specs.Prelude.{◌≡◌, ◌≤◌, ◌<◌, length};
+ghost use Rattle.stx_base.specs.Limits.{most_calls};
 ghost use Rattle.stx_model.specs.Contexts.{bare};
 ghost use Rattle.stx_model.specs.Flat.{IsFlat};
 ghost use Rattle.stx_model.specs.Script.{tops, calls_of, leaves};
@@ -73,7 +74,7 @@ pub(crate) fn leave(
 ) -> At
     requires flat { IsFlat setup.now.scenario }
     requires client { number < length setup.now.scenario.clients }
-    requires top { top < 64 }
+    requires top { top < most_calls }
     requires room { 3 ≤ lines.old.spare }
     ensures goes { Runs setup.now.scenario number bare (λ st. later_calls setup.now.scenario number top (leaves method thrown st)) lines.old.items result lines.new.items }
     ensures there { IsSound setup.now.scenario result.top result.stage }

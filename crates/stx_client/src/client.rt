@@ -1,30 +1,28 @@
 // A client: what it wants of the pool and the store, and the lines that it has said.
-ghost use Rattle.std.specs.Prelude.{◌≡◌, ◌≢◌, ◌<◌, ◌≤◌, ◌↔◌, length, false, true, Some, None, IfOk, OnOk, OnErr, IsTrue};
+ghost use Rattle.std.specs.Prelude.{◌≡◌, ◌≢◌, ◌<◌, ◌≤◌, ◌↔◌, length, false, Some, None, IfOk, OnOk, OnErr, IsTrue};
+ghost use Rattle.stx_base.specs.declared.call.Want.{Want as WantData};
+ghost use Rattle.stx_base.specs.Notes.{call_want, is_reply};
 ghost use Rattle.stx_model.specs.Meanings.{state_of, stop_of};
 ghost use Rattle.stx_model.specs.Flat.{IsFlat};
-ghost use Rattle.stx_base.specs.declared.call.Want.{Want as WantData};
-ghost use Rattle.stx_base.specs.declared.call.Reply.{Reply as ReplyData};
-ghost use Rattle.stx_base.specs.Notes.{call_want, is_reply};
-ghost use Rattle.stx_client.specs.View.{at_start, script_of, calling, fed, HasReadAll, StartsWith, IsScript};
+ghost use Rattle.stx_model.specs.Reads.{StartsWith};
+ghost use Rattle.stx_client.specs.View.{new_client, script_of, lines_of_script, calling, fed, failed_at, HasReadAll, IsScript};
 
 use crate::calls::call_at;
-use crate::notes::{pool_note, store_note};
+use crate::notes::{Notes, line_of, note_of};
 use crate::setup::Setup;
 use crate::stage::{At, Stage};
 use crate::tokens::Tokens;
-use crate::turns::{hear_pool, hear_store};
+use crate::turns::hear;
 use std::alloc::Global;
 use std::marker::Model;
-use stx_base::{
-    Call, ClientLines, Line, PoolAnswer, PoolCall, PoolNote, Reply, StoreAnswer, StoreCall,
-    StoreNote, Want,
-};
+use stx_base::{Call, ClientLines, Line, PoolCall, Reply, StoreCall, Want};
 use stx_scenario::{NoMemory, Roomy};
 
 /// The most lines that one reply adds.
 const MOST_LINES: usize = 5;
 
-/// A client of a scenario, seen as the notes that it has taken in, the call that is out, and whether it has failed.
+/// A client of a scenario, seen as the notes that it has taken in, the call that is out, whether it has failed, and the
+/// lines that it has said.
 ///
 /// It makes its top-level calls one after the other. `wants` names the next shared call, `next` makes it, and `feed`
 /// takes in the reply and goes on. Dropping it retires the connection and the session that it holds.
@@ -35,8 +33,7 @@ pub struct Client<'a> {
     at: At,
     is_out: bool,
     lines: Roomy<Line>,
-    pool: Roomy<PoolNote>,
-    store: Roomy<StoreNote>,
+    notes: Notes,
     tokens: Tokens,
 }
 
@@ -44,13 +41,14 @@ impl<'a> Model for Client<'a> {
     ghost use Rattle.std.specs.Prelude.{Some, None, if◌then◌else◌};
     ghost use Rattle.stx_client.specs.Machine.{want_of};
     ghost use Rattle.stx_client.specs.Holding.{has_failed};
-    ghost use Rattle.stx_client.specs.View.{Playing, Keeps, Holds};
+    ghost use Rattle.stx_client.specs.View.{ClientView};
+    ghost use Rattle.stx_client.specs.Keeps.{Keeps, Holds};
 
-    ghost Value = { Playing };
+    ghost Value = { ClientView };
 
-    ghost view = { λ c. record { scenario = c.setup.now.scenario; number = c.number; pool = c.pool.items; store = c.store.items; out = if c.is_out then Some (want_of c.at.stage) else None; failed = has_failed c.at.stage } };
+    ghost view = { λ c. record { scenario = c.setup.now.scenario; number = c.number; pool = c.notes.pool.items; store = c.notes.store.items; out = if c.is_out then Some (want_of c.at.stage) else None; failed = has_failed c.at.stage; said = c.lines.items } };
 
-    ghost invariant = { λ c. Keeps c.setup.now.scenario c.number c.at c.lines.items c.pool.items c.store.items × Holds c.at c.is_out c.tokens c.pool.spare c.store.spare };
+    ghost invariant = { λ c. Keeps c.setup.now.scenario c.number c.at c.lines.items c.notes.pool.items c.notes.store.items × Holds c.at c.is_out c.tokens c.notes.pool.spare c.notes.store.spare };
 }
 
 impl<'a> Client<'a> {
@@ -58,15 +56,12 @@ impl<'a> Client<'a> {
     pub fn new(alloc: Global, setup: &'a Setup, number: u32) -> Result<Client<'a>, NoMemory>
         requires flat { IsFlat setup.now.scenario }
         requires client { number < length setup.now.scenario.clients }
-        ensures client { IfOk result (λ client. client ≡ at_start setup.now.scenario number) }
+        ensures client { IfOk result (λ client. client ≡ new_client setup.now.scenario number) }
         ensures read { IfOk result (λ client. HasReadAll client) }
     {
+        let notes = Notes::new(alloc)?;
         let mut lines = Roomy::new(alloc);
-        let mut pool = Roomy::new(alloc);
-        let mut store = Roomy::new(alloc);
         lines.reserve(MOST_LINES)?;
-        pool.reserve(1)?;
-        store.reserve(1)?;
         let at = call_at(setup, number, 0, &mut lines);
         Ok(Client {
             setup,
@@ -74,8 +69,7 @@ impl<'a> Client<'a> {
             at,
             is_out: false,
             lines,
-            pool,
-            store,
+            notes,
             tokens: Tokens::none(),
         })
     }
@@ -83,6 +77,7 @@ impl<'a> Client<'a> {
     /// The lines so far: exactly those of the client's script over its notes, and after want of memory a first part of
     /// them.
     pub fn lines(&self) -> &[Line]
+        ensures said { result.now ≡ self.now.said }
         ensures exact { self.now.failed ≡ false → IsScript self.now result.now }
         ensures start { StartsWith (state_of (script_of self.now)).lines result.now }
     {
@@ -118,18 +113,26 @@ impl<'a> Client<'a> {
     }
 
     /// Takes in the reply to the call that is out, and goes on to the next shared call or to the end. For want of
-    /// memory the client fails, and the reply is taken in all the same.
+    /// memory the client fails, and the reply is taken in all the same. What it had said stays said in either case.
     pub fn feed(&mut self, _alloc: Global, reply: Reply) -> Result<(), NoMemory>
         requires failed { self.old.failed ≡ false }
         requires reply { IsTrue (is_reply self.old.out reply) }
-        ensures ok { OnOk result (self.new ≡ fed self.old reply false) }
+        ensures ok { OnOk result (self.new ≡ fed self.old reply) }
         ensures read { OnOk result (HasReadAll self.new) }
-        ensures err { OnErr result (self.new ≡ fed self.old reply true) }
+        ensures err { OnErr result (self.new ≡ failed_at self.old reply self.new.said) }
+        ensures longer { StartsWith self.new.said self.old.said }
+        ensures script { StartsWith (lines_of_script self.new) self.new.said }
     {
-        match reply {
-            Reply::Pool(answer) => self.feed_pool(answer),
-            Reply::Store(answer) => self.feed_store(answer),
+        let note = note_of(self.at.stage, reply, &mut self.tokens);
+        self.notes.push(note);
+        self.is_out = false;
+        if let Err(fault) = make_room(&mut self.lines, &mut self.notes) {
+            self.at.stage = Stage::Failed;
+            return Err(fault);
         }
+        self.lines.push(line_of(note));
+        self.at = hear(self.setup, self.number, self.at, note, &mut self.lines);
+        Ok(())
     }
 
     /// The client's lines, once all of its calls are made.
@@ -145,59 +148,17 @@ impl<'a> Client<'a> {
     pub fn abandon(self) {
         drop(self);
     }
-
-    // Takes in the pool's answer.
-    fn feed_pool(&mut self, answer: PoolAnswer) -> Result<(), NoMemory>
-        requires failed { self.old.failed ≡ false }
-        requires reply { IsTrue (is_reply self.old.out (ReplyData.Pool answer)) }
-        ensures ok { OnOk result (self.new ≡ fed self.old (ReplyData.Pool answer) false) }
-        ensures read { OnOk result (HasReadAll self.new) }
-        ensures err { OnErr result (self.new ≡ fed self.old (ReplyData.Pool answer) true) }
-    {
-        let note = pool_note(self.at.stage, answer, &mut self.tokens);
-        self.pool.push(note);
-        self.is_out = false;
-        if let Err(fault) = make_room(&mut self.lines, &mut self.pool, &mut self.store) {
-            self.at.stage = Stage::Failed;
-            return Err(fault);
-        }
-        self.at = hear_pool(self.setup, self.number, self.at, note, &mut self.lines);
-        Ok(())
-    }
-
-    // Takes in the store's answer.
-    fn feed_store(&mut self, answer: StoreAnswer) -> Result<(), NoMemory>
-        requires failed { self.old.failed ≡ false }
-        requires reply { IsTrue (is_reply self.old.out (ReplyData.Store answer)) }
-        ensures ok { OnOk result (self.new ≡ fed self.old (ReplyData.Store answer) false) }
-        ensures read { OnOk result (HasReadAll self.new) }
-        ensures err { OnErr result (self.new ≡ fed self.old (ReplyData.Store answer) true) }
-    {
-        let note = store_note(self.at.stage, answer, &mut self.tokens);
-        self.store.push(note);
-        self.is_out = false;
-        if let Err(fault) = make_room(&mut self.lines, &mut self.pool, &mut self.store) {
-            self.at.stage = Stage::Failed;
-            return Err(fault);
-        }
-        self.at = hear_store(self.setup, self.at, note, &mut self.lines);
-        Ok(())
-    }
 }
 
-// Makes room for the lines of a reply, and for one note more of the pool and of the store. Nothing else changes.
-fn make_room(
-    lines: &mut Roomy<Line>,
-    pool: &mut Roomy<PoolNote>,
-    store: &mut Roomy<StoreNote>,
-) -> Result<(), NoMemory>
+// Makes room for the lines of a reply, and for one note more of each kind. Nothing else changes.
+fn make_room(lines: &mut Roomy<Line>, notes: &mut Notes) -> Result<(), NoMemory>
     ensures lines { lines.new.items ≡ lines.old.items }
-    ensures pool { pool.new.items ≡ pool.old.items }
-    ensures store { store.new.items ≡ store.old.items }
-    ensures room { OnOk result ((5 ≤ lines.new.spare) × (1 ≤ pool.new.spare) × (1 ≤ store.new.spare)) }
+    ensures pool { notes.new.pool.items ≡ notes.old.pool.items }
+    ensures store { notes.new.store.items ≡ notes.old.store.items }
+    ensures room { OnOk result ((5 ≤ lines.new.spare) × (0 < notes.new.pool.spare) × (0 < notes.new.store.spare)) }
 {
     lines.reserve(MOST_LINES)?;
-    pool.reserve(1)?;
-    store.reserve(1)?;
+    notes.pool.reserve(1)?;
+    notes.store.reserve(1)?;
     Ok(())
 }

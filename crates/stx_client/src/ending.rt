@@ -4,7 +4,7 @@ ghost use Rattle.stx_model.specs.Meanings.{say};
 ghost use Rattle.stx_base.specs.Rules.{winner as winner_of, rolls_back};
 ghost use Rattle.stx_model.specs.Script.{throws};
 ghost use Rattle.stx_model.specs.Flat.{IsFlat};
-ghost use Rattle.stx_client.specs.Machine.{Comes, IsIn, IsMethod, attribute_of as attribute_in, ending, ends_with, is_known};
+ghost use Rattle.stx_client.specs.Machine.{Comes, IsIn, IsMethod, attribute_of as attribute_in, ending, ends_with, IsClass};
 
 use crate::calls::attribute_of;
 use crate::setup::Setup;
@@ -34,7 +34,7 @@ pub(crate) fn ended(
 ) -> Stage
     requires flat { IsFlat setup.now.scenario }
     requires method { IsMethod setup.now.scenario scope.method }
-    requires class { is_known setup.now.scenario thrown }
+    requires class { IsClass setup.now.scenario thrown }
     requires room { 2 ≤ lines.old.spare }
     ensures goes { Comes setup.now.scenario scope (ending setup.now.scenario scope thrown) lines.old.items result lines.new.items }
     ensures inside { IsIn scope result }

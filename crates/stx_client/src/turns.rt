@@ -1,20 +1,43 @@
-// What a note of the pool or of the store does: its line, and then all up to the next shared call.
+// What a note of the pool or of the store does, once its line is said: all up to the next shared call.
 ghost use Rattle.std.specs.Prelude.{◌≡◌, ◌≤◌, ◌<◌, length, IsTrue};
+ghost use Rattle.stx_base.specs.declared.history.Note.{Note as NoteData};
+ghost use Rattle.stx_base.specs.Notes.{is_answer, pool_answers, store_answers};
 ghost use Rattle.stx_model.specs.Flat.{IsFlat};
-ghost use Rattle.stx_base.specs.Notes.{pool_answers, store_answers};
 ghost use Rattle.stx_model.specs.Script.{owns_fresh as owns_in};
-ghost use Rattle.stx_client.specs.Holding.{Passes, with_taken, with_begun, nothing_new};
-ghost use Rattle.stx_client.specs.Machine.{IsSound, IsMethod, IsIn, HearsPool, HearsStore, Opens, want_of};
+ghost use Rattle.stx_client.specs.Holding.{Passes};
+ghost use Rattle.stx_client.specs.Machine.{IsSound, IsMethod, IsIn, Hears, HearsPool, HearsStore, Opens, want_of};
 
 use crate::body::{answered, goes_to};
 use crate::calls::leave;
 use crate::setup::Setup;
 use crate::stage::{At, Scope, Stage};
-use stx_base::{Kind, Line, PoolNote, StoreNote};
+use stx_base::{Kind, Line, Note, PoolNote, StoreNote};
 use stx_scenario::{CANNOT_CREATE_TRANSACTION_EXCEPTION, Roomy, SyncMode};
 
-/// Goes on after a note of the pool that answers the stage's want.
-pub(crate) fn hear_pool(
+/// Goes on after a note that answers the stage's want.
+pub(crate) fn hear(
+    setup: &Setup,
+    number: u32,
+    at: At,
+    note: Note,
+    lines: &mut Roomy<Line>,
+) -> At
+    requires flat { IsFlat setup.now.scenario }
+    requires client { number < length setup.now.scenario.clients }
+    requires sound { IsSound setup.now.scenario at.top at.stage }
+    requires answers { IsTrue (is_answer (want_of at.stage) note) }
+    requires room { 4 ≤ lines.old.spare }
+    ensures goes { Hears setup.now.scenario number note at lines.old.items result lines.new.items }
+    ensures sound { IsSound setup.now.scenario result.top result.stage }
+    ensures tokens { Passes at.stage result.stage note }
+{
+    match note {
+        Note::Pool(note) => hear_pool(setup, number, at, note, lines),
+        Note::Store(note) => hear_store(setup, at, note, lines),
+    }
+}
+
+fn hear_pool(
     setup: &Setup,
     number: u32,
     at: At,
@@ -25,56 +48,47 @@ pub(crate) fn hear_pool(
     requires client { number < length setup.now.scenario.clients }
     requires sound { IsSound setup.now.scenario at.top at.stage }
     requires answers { IsTrue (pool_answers (want_of at.stage) note) }
-    requires room { 5 ≤ lines.old.spare }
+    requires room { 4 ≤ lines.old.spare }
     ensures goes { HearsPool setup.now.scenario number note at lines.old.items result lines.new.items }
     ensures sound { IsSound setup.now.scenario result.top result.stage }
-    ensures tokens { Passes at.stage result.stage (with_taken note) nothing_new }
+    ensures tokens { Passes at.stage result.stage (NoteData.Pool note) }
 {
     match (at.stage, note) {
-        (Stage::Opening(method), PoolNote::Taken(connection)) => {
-            lines.push(Line::Take(Some(connection)));
-            At {
-                top: at.top,
-                stage: Stage::Beginning { method, connection },
-            }
-        }
+        (Stage::Opening(method), PoolNote::Taken(connection)) => At {
+            top: at.top,
+            stage: Stage::Beginning { method, connection },
+        },
         (Stage::Opening(method), PoolNote::Empty) => {
-            lines.push(Line::Take(None));
             lines.push(Line::Throw(CANNOT_CREATE_TRANSACTION_EXCEPTION));
             let refused = Some(CANNOT_CREATE_TRANSACTION_EXCEPTION);
             leave(setup, number, at.top, method, refused, lines)
         }
-        (Stage::GivingBack { scope, thrown }, PoolNote::Given(connection)) => {
-            lines.push(Line::Give(connection));
+        (Stage::GivingBack { scope, thrown }, PoolNote::Given(_)) => {
             leave(setup, number, at.top, scope.method, thrown, lines)
         }
         _ => unreachable!(),
     }
 }
 
-/// Goes on after a note of the store that answers the stage's want.
-pub(crate) fn hear_store(setup: &Setup, at: At, note: StoreNote, lines: &mut Roomy<Line>) -> At
+fn hear_store(setup: &Setup, at: At, note: StoreNote, lines: &mut Roomy<Line>) -> At
     requires flat { IsFlat setup.now.scenario }
     requires sound { IsSound setup.now.scenario at.top at.stage }
     requires answers { IsTrue (store_answers (want_of at.stage) note) }
-    requires room { 5 ≤ lines.old.spare }
+    requires room { 4 ≤ lines.old.spare }
     ensures goes { HearsStore setup.now.scenario note at lines.old.items result lines.new.items }
     ensures sound { IsSound setup.now.scenario result.top result.stage }
-    ensures tokens { Passes at.stage result.stage nothing_new (with_begun note) }
+    ensures tokens { Passes at.stage result.stage (NoteData.Store note) }
 {
     let stage = match (at.stage, note) {
-        (Stage::Beginning { method, connection }, StoreNote::Begin(tx)) => {
-            lines.push(Line::Begin(tx));
-            open(
-                setup,
-                Scope {
-                    method,
-                    connection,
-                    tx,
-                },
-                lines,
-            )
-        }
+        (Stage::Beginning { method, connection }, StoreNote::Begin(tx)) => open(
+            setup,
+            Scope {
+                method,
+                connection,
+                tx,
+            },
+            lines,
+        ),
         (
             Stage::Accessing {
                 scope,
@@ -82,17 +96,12 @@ pub(crate) fn hear_store(setup: &Setup, at: At, note: StoreNote, lines: &mut Roo
                 next,
                 ..
             },
-            StoreNote::Access { tx, access, answer },
-        ) => {
-            lines.push(Line::Row { tx, access, answer });
-            answered(setup, scope, then, next, answer, lines)
-        }
-        (Stage::Completing { scope, thrown, .. }, StoreNote::Commit { tx, number }) => {
-            lines.push(Line::Commit { tx, number });
+            StoreNote::Access { answer, .. },
+        ) => answered(setup, scope, then, next, answer, lines),
+        (Stage::Completing { scope, thrown, .. }, StoreNote::Commit { .. }) => {
             Stage::GivingBack { scope, thrown }
         }
-        (Stage::Completing { scope, thrown, .. }, StoreNote::Rollback(tx)) => {
-            lines.push(Line::Rollback(tx));
+        (Stage::Completing { scope, thrown, .. }, StoreNote::Rollback(_)) => {
             Stage::GivingBack { scope, thrown }
         }
         _ => unreachable!(),

@@ -21,23 +21,20 @@ use Rattle.stx_model.specs.Contexts.{without_syncs}
 use Rattle.stx_base.specs.declared.history.Note.{Note}
 use Rattle.stx_base.specs.Notes.{is_answer}
 use Rattle.stx_model.specs.Meanings.{State, Result, Over, Stops, Breaks, state_of, Meaning, and_then, finally, say, with_context, with_local, unread, hear, answered, ask, on_take, on_begin, on_access}
+use Rattle.stx_model.specs.Reads.{StartsWith}
 use Rattle.stx_base.specs.Weight.{body_of}
 use Rattle.stx_model.specs.Opening.{owns_fresh}
 use Rattle.stx_model.specs.Statements.{throws, unless_busy, access_row, nothing_more, value_of, is_value, needed, added, in_transaction}
 use Rattle.stx_model.specs.Scopes.{leaves, fresh_context, ruled}
 use Rattle.stx_model.proofs.FlatForm.{statement_in, body, let_go, gives_back, ending_call, completes, ending_after, ends, opened, begins, fresh, intercepted, invoke, tops}
 
--- these lines, and then more or none
-abbrev pub Starts : List Line → List Line → Type 0
-Starts all start = (more : List Line) × (all ≡ start ++ more)
-
 abbrev pub Grows : Meaning → Type 0
-Grows meaning = (st : State) → Starts (state_of (meaning st)).lines st.lines
+Grows meaning = (st : State) → StartsWith (state_of (meaning st)).lines st.lines
 
-same : (lines : List Line) → Starts lines lines
+same : (lines : List Line) → StartsWith lines lines
 same lines = ([], sym (append-nil lines))
 
-more_yet : (last middle first : List Line) → Starts last middle → Starts middle first → Starts last first
+more_yet : (last middle first : List Line) → StartsWith last middle → StartsWith middle first → StartsWith last first
 more_yet last middle first (late, is_late) (early, is_early) =
     (early ++ late, is_late ∙ ap (λ ls. ls ++ late) is_early ∙ append_assoc first early late)
 
@@ -46,19 +43,19 @@ more_yet last middle first (late, is_late) (early, is_early) =
 say_grows : (line : Line) (meaning : Meaning) → Grows meaning → Grows (λ st. meaning (say line st))
 say_grows line meaning grows st = more_yet _ (st.lines ++ line ∷ []) _ (grows (say line st)) (line ∷ [], refl)
 
-pub finally_grows : (r : Result) (next : Option ClassNo → Meaning) (lines : List Line) → Starts (state_of r).lines lines → ((x : Option ClassNo) → Grows (next x))
-    → Starts (state_of (finally r next)).lines lines
+pub finally_grows : (r : Result) (next : Option ClassNo → Meaning) (lines : List Line) → StartsWith (state_of r).lines lines → ((x : Option ClassNo) → Grows (next x))
+    → StartsWith (state_of (finally r next)).lines lines
 finally_grows (Over x st) next lines starts grows = more_yet _ st.lines _ (grows x st) starts
 finally_grows (Stops w st) next lines starts grows = starts
 finally_grows (Breaks st) next lines starts grows = starts
 
-pub and_then_grows : (r : Result) (next : Meaning) (lines : List Line) → Starts (state_of r).lines lines → Grows next → Starts (state_of (and_then r next)).lines lines
+pub and_then_grows : (r : Result) (next : Meaning) (lines : List Line) → StartsWith (state_of r).lines lines → Grows next → StartsWith (state_of (and_then r next)).lines lines
 and_then_grows (Over None st) next lines starts grows = more_yet _ st.lines _ (grows st) starts
 and_then_grows (Over (Some x) st) next lines starts grows = starts
 and_then_grows (Stops w st) next lines starts grows = starts
 and_then_grows (Breaks st) next lines starts grows = starts
 
-hear_grows : (n : Note) (st : State) → Starts (hear n st).lines st.lines
+hear_grows : (n : Note) (st : State) → StartsWith (hear n st).lines st.lines
 hear_grows (Note.Pool n) st = (_, refl)
 hear_grows (Note.Store n) st = (_, refl)
 
@@ -70,7 +67,7 @@ ask_grows : (w : Want) (next : Note → Meaning) → ((n : Note) → Grows (next
 unfolding ask
 ask_grows w next grows st = by_note (unread w st)
   where
-    by_note : (n : Option Note) → Starts (state_of (answered w next st n)).lines st.lines
+    by_note : (n : Option Note) → StartsWith (state_of (answered w next st n)).lines st.lines
     by_note None = same st.lines
     by_note (Some n) =
         either_grows (is_answer w n) (λ st. next n (hear n st)) Breaks (λ st. more_yet _ (hear n st).lines _ (grows n (hear n st)) (hear_grows n st)) (λ st. same st.lines) st
@@ -186,7 +183,7 @@ invoke_grows : (S : Scenario) (m : MethodNo) → Grows (invoke S m)
 unfolding invoke
 invoke_grows S m st = by_attribute (attribute S m)
   where
-    by_attribute : (a : Option TxAttr) → Starts (state_of (intercepted S m a st)).lines st.lines
+    by_attribute : (a : Option TxAttr) → StartsWith (state_of (intercepted S m a st)).lines st.lines
     by_attribute None = say_grows (Line.Plain m) (leaves m None) (leaves_grows m None) st
     by_attribute (Some a) = say_grows (Line.Call m a.propagation a.read_only) (fresh S m a) (fresh_grows S m a) st
 

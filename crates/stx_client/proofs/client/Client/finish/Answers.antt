@@ -10,5 +10,5 @@ returns c =
     let i = c.self.inside in
     let k = c.self.invariant.0 in
     let ok = going k i.is_out c.args.self c.self.view_is c.requires.failed in
-    let stops = stops_now i.setup.now.scenario i.number i.at i.lines.items i.pool.items i.store.items (k.runs ok) ok in
+    let stops = stops_now i.setup.now.scenario i.number i.at i.lines.items i.notes.pool.items i.notes.store.items (k.runs ok) ok in
     c.into_list.ensures ∙ sym (ap (λ v. (state_of (script_of v)).lines) (sym c.self.view_is) ∙ ap (λ r. (state_of r).lines) stops)

@@ -10,6 +10,6 @@ returns-clause-exact c =
     let k = c.self.invariant.0 in
     rw (← c.self.view_is, c.as_slice.ensures) (λ ok.
     record {
-      lines = ap (λ r. (state_of r).lines) (stops_now i.setup.now.scenario i.number i.at i.lines.items i.pool.items i.store.items (k.runs ok) ok);
-      read = reads_now i.setup.now.scenario i.number i.at i.lines.items i.pool.items i.store.items (k.runs ok) ok;
+      lines = ap (λ r. (state_of r).lines) (stops_now i.setup.now.scenario i.number i.at i.lines.items i.notes.pool.items i.notes.store.items (k.runs ok) ok);
+      read = reads_now i.setup.now.scenario i.number i.at i.lines.items i.notes.pool.items i.notes.store.items (k.runs ok) ok;
     })

@@ -1,9 +1,10 @@
 -- A client begins with its first call.
 use Rattle.std.proofs.Common.{◌≡◌, ◌∙◌, ◌++◌, [], false, None, sym, ap, arith}
 use Rattle.stx_model.specs.Contexts.{bare}
+use Rattle.stx_model.specs.Meanings.{state_of}
 use Rattle.stx_model.specs.Script.{script}
 use Rattle.stx_client.specs.Machine.{state, tops_from}
-use Rattle.stx_client.proofs.ClientLaws.{RunsOn, reads_now, starts_now}
+use Rattle.stx_client.proofs.ClientLaws.{RunsOn, stops_now, reads_now, starts_now}
 use Rattle.stx_client.proofs.HoldingLaws.{between_ok, between_connection, between_session}
 use Rattle.stx_client.proofs.client.Client.new.Goals as goal
 
@@ -14,11 +15,11 @@ invariant_of-result c =
     let n = c.args.number in
     let at = c.call_at-at.result in
     let lines = c.call_at-at.new.lines.items in
-    let pool = c.reserve-2.new.self.items in
-    let store = c.reserve-3.new.self.items in
+    let pool = c.in_ok-notes.notes.pool.items in
+    let store = c.in_ok-notes.notes.store.items in
     let unsaid : c.reserve.new.self.items ≡ [] = c.reserve.ensures.items ∙ c.new-lines.ensures in
-    let no_pool : pool ≡ [] = c.reserve-2.ensures.items ∙ c.new-pool.ensures in
-    let no_store : store ≡ [] = c.reserve-3.ensures.items ∙ c.new-store.ensures in
+    let no_pool : pool ≡ [] = c.in_ok-notes.ensures.pool.0 in
+    let no_store : store ≡ [] = c.in_ok-notes.ensures.store.0 in
     let runs : RunsOn S n at lines pool store =
     λ p s. (λ i. script S n (no_pool i ++ p) (no_store i ++ s)) ∙ ap (λ ls. tops_from S n 0 (state ls bare p s)) (sym unsaid) ∙ c.call_at-at.ensures.goes p s in (
       record {
@@ -31,17 +32,29 @@ invariant_of-result c =
       record {
         connection = λ _. ap (λ t. t.connection) c.none.ensures ∙ sym (between_connection at.stage false c.call_at-at.ensures.between);
         session = λ _. ap (λ t. t.session) c.none.ensures ∙ sym (between_session at.stage false c.call_at-at.ensures.between);
-        pool_room = λ _. omega (arith, c.in_ok-reserve-2.ensures.room);
-        store_room = λ _. omega (arith, c.in_ok-reserve-3.ensures.room);
+        pool_room = λ _. c.in_ok-notes.ensures.pool.1;
+        store_room = λ _. c.in_ok-notes.ensures.store.1;
       },
     )
 
 pub returns-clause-client : goal.returns-clause-client
+unfolding script
 returns-clause-client c =
-    let no_pool = c.reserve-2.ensures.items ∙ c.new-pool.ensures in
-    let no_store = c.reserve-3.ensures.items ∙ c.new-store.ensures in
-    let ok = between_ok c.call_at-at.result.stage c.call_at-at.ensures.between in
-    λ i. record { scenario = c.args.setup.now.scenario; number = c.args.number; pool = no_pool i; store = no_store i; out = None; failed = ok i }
+    let S = c.args.setup.now.scenario in
+    let n = c.args.number in
+    let at = c.call_at-at.result in
+    let lines = c.call_at-at.new.lines.items in
+    let pool = c.in_ok-notes.notes.pool.items in
+    let store = c.in_ok-notes.notes.store.items in
+    let unsaid : c.reserve.new.self.items ≡ [] = c.reserve.ensures.items ∙ c.new-lines.ensures in
+    let no_pool : pool ≡ [] = c.in_ok-notes.ensures.pool.0 in
+    let no_store : store ≡ [] = c.in_ok-notes.ensures.store.0 in
+    let runs : RunsOn S n at lines pool store =
+    λ p s. (λ i. script S n (no_pool i ++ p) (no_store i ++ s)) ∙ ap (λ ls. tops_from S n 0 (state ls bare p s)) (sym unsaid) ∙ c.call_at-at.ensures.goes p s in
+    let ok = between_ok at.stage c.call_at-at.ensures.between in
+    let told : lines ≡ (state_of (script S n [] [])).lines =
+    sym (ap (λ r. (state_of r).lines) (stops_now S n at lines pool store runs ok)) ∙ (λ i. (state_of (script S n (no_pool i) (no_store i))).lines) in
+    λ i. record { scenario = S; number = n; pool = no_pool i; store = no_store i; out = None; failed = ok i; said = told i }
 
 pub returns-clause-read : goal.returns-clause-read
 unfolding script
@@ -50,11 +63,11 @@ returns-clause-read c =
     let n = c.args.number in
     let at = c.call_at-at.result in
     let lines = c.call_at-at.new.lines.items in
-    let pool = c.reserve-2.new.self.items in
-    let store = c.reserve-3.new.self.items in
+    let pool = c.in_ok-notes.notes.pool.items in
+    let store = c.in_ok-notes.notes.store.items in
     let unsaid : c.reserve.new.self.items ≡ [] = c.reserve.ensures.items ∙ c.new-lines.ensures in
-    let no_pool : pool ≡ [] = c.reserve-2.ensures.items ∙ c.new-pool.ensures in
-    let no_store : store ≡ [] = c.reserve-3.ensures.items ∙ c.new-store.ensures in
+    let no_pool : pool ≡ [] = c.in_ok-notes.ensures.pool.0 in
+    let no_store : store ≡ [] = c.in_ok-notes.ensures.store.0 in
     let runs : RunsOn S n at lines pool store =
     λ p s. (λ i. script S n (no_pool i ++ p) (no_store i ++ s)) ∙ ap (λ ls. tops_from S n 0 (state ls bare p s)) (sym unsaid) ∙ c.call_at-at.ensures.goes p s in
     reads_now S n at lines pool store runs (between_ok at.stage c.call_at-at.ensures.between)

@@ -9,4 +9,4 @@ returns-clause-want c =
     let i = c.self.inside in
     let k = c.self.invariant.0 in
     rw (← c.self.view_is) (λ ok.
-    ap stop_of (stops_now i.setup.now.scenario i.number i.at i.lines.items i.pool.items i.store.items (k.runs ok) ok) ∙ ap Some (sym c.want.ensures))
+    ap stop_of (stops_now i.setup.now.scenario i.number i.at i.lines.items i.notes.pool.items i.notes.store.items (k.runs ok) ok) ∙ ap Some (sym c.want.ensures))
