@@ -45,54 +45,45 @@ drop_past [] (suc i) past = refl
 drop_past (y ∷ ys) zero past = cc
 drop_past (y ∷ ys) (suc i) past = drop_past ys i past
 
-all_at : {X : Type 0} (test : X → Bool) (xs : List X) (i : ℕ) (x : X) → list_all test xs ≡ true → slice_get xs i ≡ Some x → test x ≡ true
-all_at test [] i x all there = cc
-all_at test (y ∷ ys) zero x all there =
-    let first : y ≡ x = cc in
-    let (here, later) = and_parts (test y) (list_all test ys) all in
-    subst (λ z. test z ≡ true) first here
-all_at test (y ∷ ys) (suc i) x all there =
-    let (here, later) = and_parts (test y) (list_all test ys) all in
-    all_at test ys i x later there
-
 -- ---- methods and their bodies
 
 module _ (S : Scenario) (m : MethodNo) (method : Method) (there : slice_get S.methods m.0 ≡ Some method) where
   pub body_is : body_of S m ≡ method.body
   body_is = ap body_in there
 
-  has_attribute : IsFlat S → HasFlatAttribute (attribute S m)
-  has_attribute flat = subst HasFlatAttribute (sym (ap (option_and_then (method_attribute S)) there)) (flat.methods m.0 method there).tx
+  in_order : IsPlayable S → MethodInOrder S method
+  in_order playable = entry_of (MethodInOrder S) S.methods m.0 method playable.order.places.methods there
 
-  pub flat_at : (place : ℕ) (s : Stmt) → IsFlat S → slice_get method.body place ≡ Some s → is_flat (length S.classes) s ≡ true
-  flat_at place s flat here = all_at (is_flat (length S.classes)) method.body place s (flat.methods m.0 method there).body here
+  pub built_at : (place : ℕ) (s : Stmt) → IsPlayable S → slice_get method.body place ≡ Some s → is_built s ≡ true
+  built_at place s playable here =
+      entry_of (λ s. is_built s ≡ true) method.body place s (entry_of (IsBuiltMethod S) S.methods m.0 method playable.built.methods there).body here
 
-  pub few_statements : IsFlat S → length method.body ≤ 256
-  few_statements flat = (flat.methods m.0 method there).few
+  pub known_at : (place : ℕ) (s : Stmt) → IsPlayable S → slice_get method.body place ≡ Some s → names_known S s ≡ true
+  known_at place s playable here = entry_of (λ s. names_known S s ≡ true) method.body place s (in_order playable).body.known here
 
-pub known : (classes : ℕ) (x : ClassNo) (s : Stmt) → s ≡ Stmt.Throw x → is_flat classes s ≡ true → x.0 < classes
-known classes x s is flat =
-    ltb-true x.0 classes (subst (λ z. is_flat classes z ≡ true) is flat)
+  pub few_statements : IsPlayable S → length method.body ≤ 256
+  few_statements playable = (in_order playable).body.few
 
--- a method that there is has an attribute with propagation required
+pub class_known : (S : Scenario) (x : ClassNo) (s : Stmt) → s ≡ Stmt.Throw x → names_known S s ≡ true → x.0 < length S.classes
+class_known S x s is known = ltb-true x.0 (length S.classes) (subst (λ z. names_known S z ≡ true) is known)
+
+-- a method that there is has an attribute, and its rules are few
 pub record HasAttribute (S : Scenario) (m : MethodNo) : Type 0 where
   pub attribute : attribute S m ≡ Some (attribute_of S m)
-  pub flat : IsFlatAttribute (attribute_of S m)
+  pub few_rules : length (attribute_of S m).rules ≤ 64
 
-found : (o : Option TxAttr) → HasFlatAttribute o → (o ≡ Some (unwrap_or o default_attribute)) × IsFlatAttribute (unwrap_or o default_attribute)
-found (Some a) is = (refl, is)
-found None is = elim is [ ]
-
-pub attribute_at : (S : Scenario) (m : MethodNo) → IsFlat S → m.0 < length S.methods → HasAttribute S m
+pub attribute_at : (S : Scenario) (m : MethodNo) → IsPlayable S → m.0 < length S.methods → HasAttribute S m
 unfolding attribute_of
-attribute_at S m flat is_method = either (slice_get_cases S.methods m.0).1
+attribute_at S m playable is_method = by_kind (kind_of S playable.built m)
   where
-    either : ((x : Method) × (m.0 < length S.methods) × (slice_get S.methods m.0 ≡ Some x) × (get_or S.methods m.0 x ≡ x)) ⊎ ((length S.methods ≤ m.0) × (slice_get S.methods m.0 ≡ None))
-        → HasAttribute S m
-    either (inl (method, below, there, same)) =
-        let both = found (attribute S m) (has_attribute S m method there flat) in
-        record { attribute = both.0; flat = both.1 }
-    either (inr (past, none)) = absurd (omega (arith, past, is_method))
+    by_kind : Kinds S m → HasAttribute S m
+    by_kind (There below a is required) =
+        let same : a ≡ unwrap_or (attribute S m) default_attribute = sym (ap (λ o. unwrap_or o default_attribute) is) in
+        record {
+          attribute = is ∙ ap Some same;
+          few_rules = subst (λ (b : TxAttr). length b.rules ≤ 64) same (subst (λ o. IfSome o HasFewRules) is (few_rules S playable.order m));
+        }
+    by_kind (Past is none) = absurd (past_is S m is_method is)
 
 -- ---- the statement at a place
 
