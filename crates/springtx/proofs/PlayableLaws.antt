@@ -19,9 +19,8 @@ use Rattle.stx_base.specs.declared.cost.Cost.{Cost}
 use Rattle.stx_base.specs.Attributes.{bean_attribute, method_attribute}
 use Rattle.stx_base.specs.Weight.{one, plus, total, body_in, body_of, statement_cost, cost, cost_within, client_weight, weight}
 use Rattle.stx_model.specs.Flat.{IsFlat, IsFlatMethod, AreFlatCalls, IsFlatAttribute, HasFlatAttribute, is_flat, call_weight, calls_weight, flat_weight}
-use Rattle.stx_read.specs.Faults.{under, entry, first_some}
-use Rattle.stx_read.specs.Judge.{names_known, IsShaped}
-use Rattle.stx_read.specs.Order.{IsInOrder, MethodInOrder, BeanInOrder, TxInOrder, CallsInOrder}
+use Rattle.stx_refusals.specs.Faults.{under, entry, first_some}
+use Rattle.stx_base.specs.Valid.{names_known, IsShaped, IsInOrder, MethodInOrder, BeanInOrder, TxInOrder, CallsInOrder}
 use Rattle.springtx.specs.NotYet.{unless_built, first_from, is_always, is_required, is_built, tx_not_yet, bean_not_yet, statement_not_yet, has_attribute, method_not_yet, not_yet}
 
 -- ---- where no place is found

@@ -10,9 +10,9 @@ use Rattle.stx_scenario.specs.declared.scenario.TxAttr.{TxAttr}
 use Rattle.stx_base.specs.Attributes.{bean_attribute, method_attribute, attribute}
 use Rattle.stx_graph.specs.declared.graph.GraphFault.{GraphFault}
 use Rattle.stx_graph.specs.Graph.{IsDue}
-use Rattle.stx_read.specs.Judge.{IsValid}
-use Rattle.stx_read.specs.Order.{IsInOrder, TxInOrder, BeanInOrder, MethodInOrder}
-use Rattle.stx_read.proofs.JudgeLaws.{valid_is_in_order}
+use Rattle.stx_judge.specs.Judge.{IsValid}
+use Rattle.stx_base.specs.Valid.{IsInOrder, TxInOrder, BeanInOrder, MethodInOrder}
+use Rattle.stx_judge.proofs.JudgeLaws.{valid_is_in_order}
 use Rattle.springtx.proofs.PlayableLaws.{entry_of}
 
 pub in_order : (S : Scenario) → IsValid S → IsInOrder S

@@ -10,7 +10,7 @@ use Rattle.stx_scenario.specs.declared.scenario.TxAttr.{TxAttr}
 use Rattle.stx_scenario.specs.declared.scenario.Propagation.{Propagation}
 use Rattle.stx_scenario.specs.declared.scenario.Stmt.{Stmt}
 use Rattle.stx_base.specs.Attributes.{bean_attribute}
-use Rattle.stx_read.specs.Faults.{under, entry, first_some}
+use Rattle.stx_refusals.specs.Faults.{under, entry, first_some}
 
 -- this place, unless its form is built
 abbrev pub unless_built : Bool → List ℕ → Option (List ℕ)

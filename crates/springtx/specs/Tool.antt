@@ -14,9 +14,9 @@ use Rattle.stx_base.specs.CheckText.{check_words}
 use Rattle.stx_base.specs.RulesText.{rules_text}
 use Rattle.stx_base.specs.Weight.{weight}
 use Rattle.stx_outside.specs.Streams.{LosesAll}
-use Rattle.stx_read.specs.declared.fault.ReadFault.{ReadFault}
+use Rattle.stx_refusals.specs.declared.fault.ReadFault.{ReadFault}
 use Rattle.stx_read.specs.Reading.{scenario_of}
-use Rattle.stx_read.specs.Refusals.{refusal_text}
+use Rattle.stx_refusals.specs.Refusals.{refusal_text}
 use Rattle.stx_words.specs.declared.job.Job.{Job}
 use Rattle.stx_words.specs.Jobs.{job_of}
 use Rattle.springtx.specs.declared.answer.Answer.{Answer}

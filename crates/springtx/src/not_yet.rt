@@ -5,7 +5,7 @@ ghost use Rattle.stx_base.specs.Attributes.{bean_attribute};
 ghost use Rattle.springtx.specs.NotYet.{not_yet as first_not_yet, bean_not_yet as bean_place, method_not_yet as method_place, tx_not_yet as tx_place, statement_not_yet as statement_place, first_from, is_built as built_test, is_always as always_test, is_required as required_test, has_attribute as attribute_test, not_yet_text as text_of};
 
 use std::alloc::Global;
-use stx_read::{Argument, entry, under};
+use stx_refusals::{Argument, entry, under};
 use stx_scenario::{Bean, Method, NoMemory, Propagation, Scenario, Stmt, SyncMode, TxAttr};
 
 /// The first place, in walk order, of a form that isn't played yet.

@@ -11,6 +11,7 @@ pub mod Classes
 pub mod Rules
 pub mod Weight
 pub mod Laws
+pub mod Valid
 pub mod Lines
 pub mod Report
 pub mod RulesText

@@ -1,25 +1,55 @@
--- What is shaped in scenarios that tests make.
-use Rattle.std.proofs.Common.{◌≡◌, ◌≤◌, true, List, [], ◌∷◌, ◌++◌, None, length, take, drop, refl, ◌∙◌, ap, subst, arith}
-use Rattle.std.specs.List.{list_all}
-use Rattle.std.proofs.lemmas.List.{length-take, drop_all, take-append-le}
+-- The scenario that a document states is shaped: the rows that only statements name are names, and each is new.
+use Rattle.std.proofs.Common.{◌≡◌, ℕ, List, ◌++◌, codes, flat_map, length, map, take, drop, refl, sym, ◌∙◌, length-append, arith}
+use Rattle.std.proofs.lemmas.List.{length-map}
+use Rattle.toml.specs.Data.{Members}
 use Rattle.stx_scenario.specs.declared.scenario.Scenario.{Scenario}
 use Rattle.stx_scenario.specs.declared.scenario.ClassDecl.{ClassDecl}
 use Rattle.stx_scenario.specs.BuiltIn.{built_in}
-use Rattle.stx_read.specs.Names.{is_name}
-use Rattle.stx_read.specs.Duplicates.{duplicate_from}
-use Rattle.stx_read.specs.Judge.{first_rows}
+use Rattle.stx_base.specs.Valid.{IsFew, IsShaped, PlacesInOrder}
+use Rattle.stx_judge.proofs.CountLaws.{few_classes}
+use Rattle.stx_draft.specs.DeclaredNames.{names_in}
+use Rattle.stx_draft.specs.Parts.{tables_at}
+use Rattle.stx_draft.specs.Draft.{row_said, sentences_of, all_names, class_in, drafted}
+use Rattle.stx_draft.proofs.DraftLaws.{Added, added, are_names-document, take-first, drop-first}
+use Rattle.stx_read.specs.Shaped.{AreFew, DraftsAreShaped}
 
--- a class at the end leaves the built-in ones where they are
-pub still_built_in : (classes : List ClassDecl) (class : ClassDecl) → take 17 classes ≡ built_in → take 17 (classes ++ class ∷ []) ≡ built_in
-still_built_in classes class begins =
-    let many : 17 ≤ length classes = omega (arith, length-take 17 classes, ap length begins) in
-    take-append-le 17 classes (class ∷ []) many ∙ begins
+shaped_so : (S : Scenario) (own : List ClassDecl) (rows : List (List ℕ)) → S.classes ≡ built_in ++ own → length S.values ≡ length rows → Added rows S.row_names → AreFew S → IsShaped S
+shaped_so S own rows classes valued all few =
+    let first : take (length S.values) S.row_names ≡ rows = rw (all.is, valued) (take-first rows all.more) in
+    let rest : drop (length S.values) S.row_names ≡ all.more = rw (all.is, valued) (drop-first rows all.more) in
+    record {
+      classes = rw classes (take-first built_in own);
+      values = rw (all.is, valued) (omega (arith, length-append rows all.more));
+      names = rw rest all.names;
+      rows = rw (first, rest) (all.new (length S.values));
+      few_events = few.events;
+      few_turns = few.turns;
+      few_rows = few.rows;
+      few_classes = few.classes;
+      few_beans = few.beans;
+      few_methods = few.methods;
+      few_syncs = few.syncs;
+      few_listeners = few.listeners;
+      few_clients = few.clients;
+    }
 
--- where all rows have a value, no row name is left
-pub named_rows : (S : Scenario) → length S.row_names ≤ length S.values → list_all is_name (drop (length S.values) S.row_names) ≡ true
-named_rows S few = ap (list_all is_name) (drop_all (length S.values) S.row_names few)
+pub shaped : DraftsAreShaped
+unfolding drafted
+shaped root few =
+    shaped_so (drafted root) (map (class_in (all_names root)) (tables_at (codes "classes") root)) (names_in root).rows refl
+    (length-map (tables_at (codes "rows") root) _ ∙ sym (length-map (tables_at (codes "rows") root) _))
+    (added (flat_map row_said (sentences_of root)) (names_in root).rows (are_names-document root)) few
 
-pub fresh_rows : (S : Scenario) → length S.row_names ≤ length S.values
-    → duplicate_from (first_rows S) (length S.values) (drop (length S.values) S.row_names) ≡ None
-unfolding duplicate_from
-fresh_rows S few = ap (duplicate_from (first_rows S) (length S.values)) (drop_all (length S.values) S.row_names few)
+-- how many parts of each kind there are where no list is too long
+pub few_parts : (S : Scenario) → PlacesInOrder S → IsFew (length S.row_names) → AreFew S
+few_parts S order rows = record {
+  events = omega (arith, order.few_events);
+  turns = omega (arith, order.few_turns);
+  rows = rows;
+  classes = few_classes S order;
+  beans = omega (arith, order.few_beans);
+  methods = omega (arith, order.few_methods);
+  syncs = omega (arith, order.few_syncs);
+  listeners = omega (arith, order.few_listeners);
+  clients = omega (arith, order.few_clients);
+}

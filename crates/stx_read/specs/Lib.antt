@@ -1,17 +1,2 @@
-pub mod Names
-pub mod Words
-pub mod Sentences
-pub mod Faults
-pub mod Schema
-pub mod Walk
-pub mod Parts
-pub mod Duplicates
-pub mod Draft
-pub mod Calls
-pub mod Judge
-pub mod Stages
-pub mod Order
-pub mod Laws
 pub mod Reading
-pub mod Refusals
 pub mod Shaped

@@ -4,30 +4,15 @@ use Rattle.std.specs.Str.{is_utf8}
 use Rattle.toml.specs.Data.{Members}
 use Rattle.toml.specs.Parse.{parse_document}
 use Rattle.stx_scenario.specs.declared.scenario.Scenario.{Scenario}
-use Rattle.stx_read.specs.declared.fault.ReadFault.{ReadFault}
-use Rattle.stx_read.specs.declared.fault.Stage.{Stage}
-use Rattle.stx_read.specs.Faults.{first_at, first_some}
-use Rattle.stx_read.specs.Walk.{document_faults}
-use Rattle.stx_read.specs.Duplicates.{duplicate_among, names_in}
-use Rattle.stx_read.specs.Draft.{drafted}
-use Rattle.stx_read.specs.Judge.{scenario_faults, judged}
-
--- the document that the bytes are
-abbrev pub document_of : List ℕ → Option Members
-document_of bytes = if is_utf8 bytes then parse_document bytes else None
-
--- what the stages refuse before there is a scenario: keys, types, names, numbers and words
-unfoldable pub refused_in : Members → Option ReadFault
-refused_in root = first_some (
-    first_at Stage.UnknownKey (document_faults root)
-    ∷ first_at Stage.Missing (document_faults root)
-    ∷ first_at Stage.WrongType (document_faults root)
-    ∷ first_at Stage.BadName (document_faults root)
-    ∷ first_at Stage.OutOfRange (document_faults root)
-    ∷ first_at Stage.TooMany (document_faults root)
-    ∷ duplicate_among (names_in root)
-    ∷ first_at Stage.BadWord (document_faults root)
-    ∷ [])
+use Rattle.stx_refusals.specs.declared.fault.ReadFault.{ReadFault}
+use Rattle.stx_refusals.specs.declared.fault.Stage.{Stage}
+use Rattle.stx_refusals.specs.Faults.{first_at, first_some}
+use Rattle.stx_draft.specs.Walk.{document_faults}
+use Rattle.stx_names.specs.Duplicates.{duplicate_among}
+use Rattle.stx_draft.specs.DeclaredNames.{names_in}
+use Rattle.stx_draft.specs.Document.{document_of, refused_in}
+use Rattle.stx_draft.specs.Draft.{drafted}
+use Rattle.stx_judge.specs.Judge.{scenario_faults, judged}
 
 -- a scenario that is refused, or not
 abbrev pub answer : Option ReadFault → Scenario → Result Scenario ReadFault

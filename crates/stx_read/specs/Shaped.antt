@@ -2,8 +2,8 @@
 use Rattle.std.specs.Prelude.{length}
 use Rattle.toml.specs.Data.{Members}
 use Rattle.stx_scenario.specs.declared.scenario.Scenario.{Scenario}
-use Rattle.stx_read.specs.Draft.{drafted}
-use Rattle.stx_read.specs.Judge.{IsFew, IsShaped}
+use Rattle.stx_draft.specs.Draft.{drafted}
+use Rattle.stx_base.specs.Valid.{IsFew, IsShaped}
 
 -- how many of each there are
 pub record AreFew (S : Scenario) : Type 0 where

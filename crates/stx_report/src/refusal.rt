@@ -1,10 +1,10 @@
 // The text that answers a refused scenario.
 ghost use Rattle.std.specs.Prelude.{◌≡◌, ◌≢◌, ◌++◌, IfOk, codes};
 ghost use Rattle.stx_base.specs.Lines.{line_feed};
-ghost use Rattle.stx_read.specs.Refusals.{refusal_text};
+ghost use Rattle.stx_refusals.specs.Refusals.{refusal_text};
 
 use std::alloc::Global;
-use stx_read::{Argument, ReadFault};
+use stx_refusals::{Argument, ReadFault};
 use stx_scenario::NoMemory;
 
 /// The text that says why a scenario is refused: the stage that refuses it, by its number and name, and what it refuses.

@@ -8,12 +8,12 @@ use super::{check_text, print, refusal_text, rules_text};
 use std::alloc::Global;
 use std::test::Fail;
 use stx_attr::Attributes;
-use stx_classes::{ClassFault, ClassTree};
 use stx_base::{
     Access, Answer, ClientLines, Ending, Kind, Line, Outcome, PoolEntry, PoolNote, StoreEntry,
     StoreNote,
 };
-use stx_read::{Argument, ReadFault};
+use stx_classes::{ClassFault, ClassTree};
+use stx_refusals::{Argument, ReadFault};
 use stx_scenario::{
     Bean, BeanNo, CANNOT_ACQUIRE_LOCK_EXCEPTION, ClassDecl, ClassNo, EXCEPTION, EventNo, List,
     Listener, Method, MethodNo, Name, NoMemory, Phase, Propagation, RowNo, Rule, RuleBy, Scenario,

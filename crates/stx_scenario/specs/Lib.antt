@@ -1,3 +1,4 @@
 pub mod BuiltIn
 pub mod Memory
 pub mod Rooms
+pub mod Names

@@ -2,8 +2,10 @@ use Rattle.std.proofs.Common.{◌≡◌, ◌∙◌, None, length, take, sym, ap,
 use Rattle.toml.specs.View.{table_view}
 use Rattle.stx_scenario.specs.declared.scenario.Scenario.{Scenario}
 use Rattle.stx_scenario.specs.BuiltIn.{built_in}
-use Rattle.stx_read.specs.Judge.{IsFew, IsValid, judged}
-use Rattle.stx_read.proofs.ReadLaws.{none_twice, begins_built_in, valid_draft}
+use Rattle.stx_base.specs.Valid.{IsFew}
+use Rattle.stx_judge.specs.Judge.{IsValid, judged}
+use Rattle.stx_draft.proofs.DocumentLaws.{none_twice}
+use Rattle.stx_read.proofs.ReadLaws.{begins_built_in, valid_draft}
 use Rattle.stx_read.proofs.read.read_scenario.Goals as goal
 
 pub drafted-requires : goal.drafted-requires

@@ -1,0 +1,6 @@
+pub mod PartLaws
+pub mod RowLaws
+pub mod LeafLaws
+pub mod DocumentLaws
+pub mod WalkLaws
+pub mod DraftLaws

@@ -1,0 +1,6 @@
+pub mod Schema
+pub mod Walk
+pub mod Parts
+pub mod DeclaredNames
+pub mod Document
+pub mod Draft

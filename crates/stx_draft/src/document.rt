@@ -1,0 +1,61 @@
+// The document that the bytes of a file are, and what is refused in it before there is a scenario.
+ghost use Rattle.std.specs.Prelude.{◌≡◌, ◌≢◌, IfOk, IfErr, Some, None};
+ghost use Rattle.toml.specs.View.{table_view};
+ghost use Rattle.stx_draft.specs.Document.{document_of, refused_in as refusal_of};
+
+use crate::declared_names::names_in;
+use crate::walk::document_faults;
+use std::alloc::Global;
+use stx_names::duplicate_among;
+use stx_refusals::{ReadFault, Stage, first_at};
+use stx_scenario::NoMemory;
+use toml::Table;
+
+/// The document that the bytes are: TOML in UTF-8.
+#[tactic(auto, using(crate::proofs::DocumentLaws::document_read, crate::proofs::DocumentLaws::document_refused))]
+pub fn document_of(alloc: Global, bytes: &[u8]) -> Result<Table, ReadFault>
+    ensures ok { IfOk result (λ root. document_of bytes.now ≡ Some (table_view root)) }
+    ensures refused { IfErr result (λ fault. fault ≢ ReadFault.NoMemory → (fault ≡ ReadFault.NotToml) × (document_of bytes.now ≡ None)) }
+{
+    match toml::table_from_slice(alloc, bytes) {
+        Ok(root) => Ok(root),
+        Err(error) => {
+            if error.is_memory() {
+                return Err(ReadFault::NoMemory);
+            }
+            Err(ReadFault::NotToml)
+        }
+    }
+}
+
+/// What the stages refuse before there is a scenario: keys, types, names, numbers and words.
+#[tactic(auto, unfolding(crate::specs::Document::refused_in))]
+pub fn refused_in(alloc: Global, root: &Table) -> Result<Option<ReadFault>, NoMemory>
+    ensures { IfOk result (λ fault. fault ≡ refusal_of (table_view root.now)) }
+{
+    let faults = document_faults(alloc, root)?;
+    let faults = faults.as_slice();
+    if let Some(fault) = first_at(alloc, Stage::UnknownKey, faults)? {
+        return Ok(Some(fault));
+    }
+    if let Some(fault) = first_at(alloc, Stage::Missing, faults)? {
+        return Ok(Some(fault));
+    }
+    if let Some(fault) = first_at(alloc, Stage::WrongType, faults)? {
+        return Ok(Some(fault));
+    }
+    if let Some(fault) = first_at(alloc, Stage::BadName, faults)? {
+        return Ok(Some(fault));
+    }
+    if let Some(fault) = first_at(alloc, Stage::OutOfRange, faults)? {
+        return Ok(Some(fault));
+    }
+    if let Some(fault) = first_at(alloc, Stage::TooMany, faults)? {
+        return Ok(Some(fault));
+    }
+    let names = names_in(alloc, root)?;
+    if let Some(fault) = duplicate_among(alloc, &names)? {
+        return Ok(Some(fault));
+    }
+    first_at(alloc, Stage::BadWord, faults)
+}

@@ -1,0 +1,281 @@
+// The walk over a document: what the stages on single places refuse in it, in walk order.
+ghost use Rattle.std.specs.Prelude.{◌≡◌, ◌++◌, IfOk, OnOk, Some, map};
+ghost use Rattle.toml.specs.View.{view, table_view, items_view};
+ghost use Rattle.stx_refusals.specs.declared.fault.Stage.{Stage as StageData};
+ghost use Rattle.stx_draft.specs.declared.schema.Kind.{Kind as KindData};
+ghost use Rattle.stx_refusals.specs.Faults.{refused, unless, under as path_under, entry as path_of_entry, count_stage as count_stage_of};
+ghost use Rattle.stx_draft.specs.Schema.{key_of, leaf_stage as stage_of};
+ghost use Rattle.stx_draft.specs.Walk.{walk, missing, each_item, entry_faults as faults_of_entry, value_faults as faults_of_value, key_faults as faults_of_key, key_text as text_of_key, is_known as known_test, unknown_faults as unknown_of, table_faults as faults_of_table, document_faults as faults_of_document};
+
+use crate::leaf::{count_stage, leaf_stage};
+use crate::schema::{Field, Kind, Leaf, Shape, fields_of, root_fields};
+use std::alloc::Global;
+use stx_names::is_name;
+use stx_refusals::{Argument, Fault, Stage, entry, refuse, under};
+use stx_scenario::{List, NoMemory};
+use toml::{Table, Value};
+
+/// All that the stages on single places refuse in a document.
+#[tactic(auto, unfolding(crate::specs::Walk::document_faults))]
+pub fn document_faults(alloc: Global, root: &Table) -> Result<List<Fault>, NoMemory>
+    ensures { IfOk result (λ faults. faults ≡ faults_of_document (table_view root.now)) }
+{
+    let mut faults = List::new(alloc);
+    table_faults(alloc, root_fields(), "", root, &mut faults)?;
+    Ok(faults)
+}
+
+// ---- tables
+
+/// What is refused in a table that has these fields.
+#[cycle(walk)]
+fn table_faults(
+    alloc: Global,
+    fields: &[Field],
+    path: &str,
+    table: &Table,
+    faults: &mut List<Fault>,
+) -> Result<(), NoMemory>
+    ensures { OnOk result (faults.new ≡ faults.old ++ faults_of_table walk (map key_of fields.now) path.now (table_view table.now)) }
+{
+    for field in fields {
+        field_faults(alloc, field, path, table, faults)?;
+    }
+    unknown_faults(alloc, fields, path, table, faults)
+}
+
+#[cycle(walk)]
+fn field_faults(
+    alloc: Global,
+    field: &Field,
+    path: &str,
+    table: &Table,
+    faults: &mut List<Fault>,
+) -> Result<(), NoMemory>
+    ensures { OnOk result (faults.new ≡ faults.old ++ faults_of_key walk path.now (table_view table.now) (key_of field.now)) }
+{
+    match table.get(field.key) {
+        Some(value) => {
+            let path = under(alloc, path, field.key)?;
+            value_faults(alloc, field.kind, path.as_str(), value, faults)
+        }
+        None => missing_fault(alloc, field, path, faults),
+    }
+}
+
+fn missing_fault(
+    alloc: Global,
+    field: &Field,
+    path: &str,
+    faults: &mut List<Fault>,
+) -> Result<(), NoMemory>
+    ensures { OnOk result (faults.new ≡ faults.old ++ refused (path_under path.now field.now.key.now) (missing field.now.required)) }
+{
+    if !field.required {
+        return Ok(());
+    }
+    refuse(faults, Stage::Missing, under(alloc, path, field.key)?)
+}
+
+/// What is refused in the keys that the format doesn't have.
+fn unknown_faults(
+    alloc: Global,
+    fields: &[Field],
+    path: &str,
+    table: &Table,
+    faults: &mut List<Fault>,
+) -> Result<(), NoMemory>
+    ensures { OnOk result (faults.new ≡ faults.old ++ unknown_of (map key_of fields.now) path.now (table_view table.now)) }
+{
+    for key in table.keys() {
+        unknown_fault(alloc, fields, path, key.as_str(), faults)?;
+    }
+    Ok(())
+}
+
+fn unknown_fault(
+    alloc: Global,
+    fields: &[Field],
+    path: &str,
+    key: &str,
+    faults: &mut List<Fault>,
+) -> Result<(), NoMemory>
+    ensures { OnOk result (faults.new ≡ faults.old ++ refused (path_under path.now (text_of_key key.now)) (unless (known_test (map key_of fields.now) key.now) StageData.UnknownKey)) }
+{
+    if is_known(fields, key) {
+        return Ok(());
+    }
+    refuse(
+        faults,
+        Stage::UnknownKey,
+        under(alloc, path, key_text(key))?,
+    )
+}
+
+fn is_known(fields: &[Field], key: &str) -> bool
+    ensures { result ≡ known_test (map key_of fields.now) key.now }
+{
+    fields.iter().any(|field| field.key == key)
+}
+
+/// How a path writes a key: one that isn't a name as `?`.
+fn key_text(key: &str) -> &str
+    ensures { result.now ≡ text_of_key key.now }
+{
+    if is_name(key) { key } else { "?" }
+}
+
+// ---- values
+
+#[cycle(walk)]
+fn value_faults(
+    alloc: Global,
+    kind: Kind,
+    path: &str,
+    value: &Value,
+    faults: &mut List<Fault>,
+) -> Result<(), NoMemory>
+    ensures { OnOk result (faults.new ≡ faults.old ++ faults_of_value walk kind path.now (view value.now)) }
+{
+    match kind {
+        Kind::Value(leaf) => leaf_faults(alloc, leaf, path, value, faults),
+        Kind::Values { leaf, most } => values_faults(alloc, leaf, most, path, value, faults),
+        Kind::Table(shape) => entry_faults(alloc, shape, path, value, faults),
+        Kind::Tables { shape, least, most } => {
+            tables_faults(alloc, shape, (least, most), path, value, faults)
+        }
+    }
+}
+
+fn leaf_faults(
+    alloc: Global,
+    leaf: Leaf,
+    path: &str,
+    value: &Value,
+    faults: &mut List<Fault>,
+) -> Result<(), NoMemory>
+    ensures { OnOk result (faults.new ≡ faults.old ++ refused path.now (stage_of leaf (view value.now))) }
+{
+    let Some(stage) = leaf_stage(alloc, leaf, value)? else {
+        return Ok(());
+    };
+    refuse_at(alloc, faults, stage, path)
+}
+
+/// What is refused in a value that has to be an array of single values.
+fn values_faults(
+    alloc: Global,
+    leaf: Leaf,
+    most: usize,
+    path: &str,
+    value: &Value,
+    faults: &mut List<Fault>,
+) -> Result<(), NoMemory>
+    ensures { OnOk result (faults.new ≡ faults.old ++ faults_of_value walk (KindData.Values leaf most) path.now (view value.now)) }
+{
+    let Some(items) = value.as_array() else {
+        return refuse_at(alloc, faults, Stage::WrongType, path);
+    };
+    count_fault(alloc, (0, most), path, items.len(), faults)?;
+    items_faults(alloc, leaf, path, items, faults)
+}
+
+fn items_faults(
+    alloc: Global,
+    leaf: Leaf,
+    path: &str,
+    items: &[Value],
+    faults: &mut List<Fault>,
+) -> Result<(), NoMemory>
+    ensures { OnOk result (faults.new ≡ faults.old ++ each_item (λ n d. refused (path_of_entry path.now n) (stage_of leaf d)) 0 (items_view items.now)) }
+{
+    for (at, item) in items.iter().enumerate() {
+        item_faults(alloc, leaf, path, at, item, faults)?;
+    }
+    Ok(())
+}
+
+fn item_faults(
+    alloc: Global,
+    leaf: Leaf,
+    path: &str,
+    at: usize,
+    item: &Value,
+    faults: &mut List<Fault>,
+) -> Result<(), NoMemory>
+    ensures { OnOk result (faults.new ≡ faults.old ++ refused (path_of_entry path.now at) (stage_of leaf (view item.now))) }
+{
+    let Some(stage) = leaf_stage(alloc, leaf, item)? else {
+        return Ok(());
+    };
+    refuse(faults, stage, entry(alloc, path, at)?)
+}
+
+/// What is refused in a value that has to be an array of tables.
+#[cycle(walk)]
+fn tables_faults(
+    alloc: Global,
+    shape: Shape,
+    bounds: (usize, usize),
+    path: &str,
+    value: &Value,
+    faults: &mut List<Fault>,
+) -> Result<(), NoMemory>
+    ensures { OnOk result (faults.new ≡ faults.old ++ faults_of_value walk (KindData.Tables shape bounds.0 bounds.1) path.now (view value.now)) }
+{
+    match value {
+        Value::Array(items) => {
+            count_fault(alloc, bounds, path, items.len(), faults)?;
+            for (at, item) in items.iter().enumerate() {
+                let path = entry(alloc, path, at)?;
+                entry_faults(alloc, shape, path.as_str(), item, faults)?;
+            }
+            Ok(())
+        }
+        _ => refuse_at(alloc, faults, Stage::WrongType, path),
+    }
+}
+
+/// What is refused in a value that has to be a table.
+#[cycle(walk)]
+fn entry_faults(
+    alloc: Global,
+    shape: Shape,
+    path: &str,
+    value: &Value,
+    faults: &mut List<Fault>,
+) -> Result<(), NoMemory>
+    ensures { OnOk result (faults.new ≡ faults.old ++ faults_of_entry walk shape path.now (view value.now)) }
+{
+    match value {
+        Value::Table(inner) => table_faults(alloc, fields_of(shape), path, inner, faults),
+        _ => refuse_at(alloc, faults, Stage::WrongType, path),
+    }
+}
+
+fn count_fault(
+    alloc: Global,
+    bounds: (usize, usize),
+    path: &str,
+    count: usize,
+    faults: &mut List<Fault>,
+) -> Result<(), NoMemory>
+    ensures { OnOk result (faults.new ≡ faults.old ++ refused path.now (count_stage_of bounds.0 bounds.1 count)) }
+{
+    match count_stage(bounds.0, bounds.1, count) {
+        Some(stage) => refuse_at(alloc, faults, stage, path),
+        None => Ok(()),
+    }
+}
+
+fn refuse_at(
+    alloc: Global,
+    faults: &mut List<Fault>,
+    stage: Stage,
+    path: &str,
+) -> Result<(), NoMemory>
+    ensures { OnOk result (faults.new ≡ faults.old ++ refused path.now (Some stage)) }
+{
+    let path = Argument::from_text(String::from_str(alloc, path)?);
+    refuse(faults, stage, path)
+}

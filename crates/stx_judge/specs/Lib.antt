@@ -1,0 +1,4 @@
+pub mod Calls
+pub mod Judge
+pub mod Stages
+pub mod Laws

@@ -1,0 +1,36 @@
+// The tree of the classes, or why they make none.
+ghost use Rattle.std.specs.Prelude.{◌≡◌, length, take, Some, IfOk, MatchResult};
+ghost use Rattle.stx_scenario.specs.BuiltIn.{built_in};
+ghost use Rattle.stx_base.specs.Classes.{parents_of, IsTree};
+ghost use Rattle.stx_base.specs.Valid.{PlacesInOrder};
+ghost use Rattle.stx_judge.specs.Stages.{class_refusal};
+
+use crate::texts::class_name;
+use std::alloc::Global;
+use stx_classes::{ClassFault, ClassTree};
+use stx_refusals::ReadFault;
+use stx_scenario::{NoMemory, Scenario};
+
+/// The tree of a scenario's classes, each of which has a parent, or the refusal where they make none.
+pub fn class_tree(
+    alloc: Global,
+    scenario: &Scenario,
+) -> Result<Result<ClassTree, ReadFault>, NoMemory>
+    requires built_in { take (length built_in) scenario.now.classes ≡ built_in }
+    requires order { PlacesInOrder scenario.now }
+    ensures { IfOk result (λ made. MatchResult made (λ tree. (tree ≡ parents_of scenario.now.classes) × IsTree scenario.now.classes) (λ fault. class_refusal scenario.now ≡ Some fault)) }
+{
+    match ClassTree::build(alloc, &scenario.classes) {
+        Ok(tree) => Ok(Ok(tree)),
+        Err(ClassFault::UnknownParent(_)) => unreachable!(),
+        Err(ClassFault::Cycle(class)) => {
+            let class = class_name(alloc, scenario, class)?;
+            Ok(Err(ReadFault::ClassCycle(class)))
+        }
+        Err(ClassFault::TooDeep(class)) => {
+            let class = class_name(alloc, scenario, class)?;
+            Ok(Err(ReadFault::ClassDepth(class)))
+        }
+        Err(ClassFault::NoMemory) => Err(NoMemory),
+    }
+}

@@ -1,0 +1,39 @@
+// The texts of names by number, as refusals give them.
+ghost use Rattle.std.specs.Prelude.{◌≡◌, ◌<◌, length, IfOk};
+ghost use Rattle.stx_base.specs.Lines.{bean_name, class_name, method_name};
+
+use std::alloc::Global;
+use stx_refusals::Argument;
+use stx_scenario::{BeanNo, ClassNo, MethodNo, NoMemory, Scenario};
+
+pub fn class_name(alloc: Global, scenario: &Scenario, class: ClassNo) -> Result<Argument, NoMemory>
+    requires { class.0 < length scenario.now.classes }
+    ensures { IfOk result (λ name. name ≡ class_name scenario.now class) }
+{
+    let name = scenario.class(class).name.as_str();
+    Ok(Argument::from_text(String::from_str(alloc, name)?))
+}
+
+/// A method as `BEAN.METHOD`.
+pub fn method_name(
+    alloc: Global,
+    scenario: &Scenario,
+    method: MethodNo,
+) -> Result<Argument, NoMemory>
+    requires { method.0 < length scenario.now.methods }
+    ensures { IfOk result (λ name. name ≡ method_name scenario.now method) }
+{
+    let method = scenario.method(method);
+    let bean = bean_name(scenario, method.bean);
+    let name = method.name.as_str();
+    Ok(Argument::from_text(format!(in alloc; "{bean}.{name}")?))
+}
+
+fn bean_name(scenario: &Scenario, bean: BeanNo) -> &str
+    ensures { result.now ≡ bean_name scenario.now bean }
+{
+    match scenario.beans.get(bean.0 as usize) {
+        Some(bean) => bean.name.as_str(),
+        None => "",
+    }
+}

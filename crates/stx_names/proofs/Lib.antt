@@ -1,0 +1,4 @@
+pub mod NumbersLaws
+pub mod NumberLaws
+pub mod DuplicateLaws
+pub mod SentenceLaws

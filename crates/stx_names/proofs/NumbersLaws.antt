@@ -1,0 +1,42 @@
+-- Names that are kept as texts, beside the same names as bytes.
+use Rattle.std.proofs.Common.{◌≡◌, ℕ, false, not, List, [], ◌∷◌, ◌++◌, map, Some, None, String, Global, string_bytes, string_eq, refl, sym, ap, ◌∙◌}
+use Rattle.std.proofs.lemmas.Bool.Decides.{same_from_decides, Decides-like}
+use Rattle.std.proofs.lemmas.Slice.Eq.{bytes_eq-Decides}
+use Rattle.std.proofs.lemmas.List.{map-append, length-map}
+use Rattle.std.specs.List.{list_any, position, prefix_len}
+use Rattle.std.specs.Str.{bytes_eq}
+use Rattle.indexmap.specs.IndexSet.{insert_key}
+use Rattle.stx_scenario.specs.Names.{has_name}
+use Rattle.stx_names.specs.Numbers.{with_name, number_of, nothing}
+
+pub bytes_eq-sym : (xs ys : List ℕ) → bytes_eq xs ys ≡ bytes_eq ys xs
+bytes_eq-sym xs ys = same_from_decides _ _ (bytes_eq-Decides xs ys) (Decides-like _ (λ same. sym same) (λ same. sym same) (bytes_eq-Decides ys xs))
+
+-- a name is found among texts as among their bytes
+pub found-among : (name : List ℕ) (ks : List (String Global)) → list_any (λ k. bytes_eq name (string_bytes k)) ks ≡ has_name (map string_bytes ks) name
+found-among name [] = refl
+found-among name (k ∷ ks) = rw (bytes_eq-sym name (string_bytes k), found-among name ks)
+
+before-among : (name : List ℕ) (ks : List (String Global))
+    → prefix_len (λ k. not (bytes_eq name (string_bytes k))) ks ≡ prefix_len (λ n. not (bytes_eq n name)) (map string_bytes ks)
+before-among name [] = refl
+before-among name (k ∷ ks) = rw (bytes_eq-sym name (string_bytes k), before-among name ks)
+
+place-among : (name : List ℕ) (ks : List (String Global)) → position (λ k. bytes_eq name (string_bytes k)) ks ≡ position (λ n. bytes_eq n name) (map string_bytes ks)
+place-among name ks = rw (before-among name ks, length-map ks string_bytes)
+
+-- the same for names that are seen as the bytes of these texts
+module _ (name : List ℕ) (ks : List (String Global)) (names : List (List ℕ)) where
+  pub number-among : (n : ℕ) → names ≡ map string_bytes ks → position (λ k. bytes_eq name (string_bytes k)) ks ≡ Some n → n ≡ number_of names name
+  number-among n seen at = rw (seen, ← place-among name ks, at)
+
+  pub number-nothing : names ≡ map string_bytes ks → position (λ k. bytes_eq name (string_bytes k)) ks ≡ None → nothing ≡ number_of names name
+  number-nothing seen none = rw (seen, ← place-among name ks, none)
+
+  -- a text that goes to the end of the texts is a name that goes to the end of the names
+  pub added-name : (k : String Global) → names ≡ map string_bytes ks → string_bytes k ≡ name → has_name names name ≡ false
+      → map string_bytes (insert_key string_eq ks k) ≡ with_name names name
+  added-name k seen text new =
+      let new' : has_name (map string_bytes ks) name ≡ false = rw seen at new in
+      let absent : list_any (string_eq k) ks ≡ false = found-among (string_bytes k) ks ∙ rw text new' in
+      rw (absent, seen, new') (map-append string_bytes ks (k ∷ []) ∙ ap (λ n. map string_bytes ks ++ n ∷ []) text)

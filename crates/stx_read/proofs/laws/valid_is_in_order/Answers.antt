@@ -1,5 +1,0 @@
-use Rattle.stx_read.proofs.JudgeLaws.{valid_is_in_order}
-use Rattle.stx_read.proofs.laws.valid_is_in_order.Goals as goal
-
-pub returns : goal.returns
-returns c = valid_is_in_order

@@ -1,9 +1,0 @@
--- The pieces that `split` gives are the parts.
-use Rattle.std.proofs.Common.{lit<, rules, tests}
-use Rattle.std.proofs.lemmas.Iterator.Search.{all_from_yields_List}
-use Rattle.std.proofs.lemmas.Iterator.Splits.{YieldsList-from_str_split}
-use Rattle.stx_read.specs.Names.{is_name}
-use Rattle.stx_read.proofs.names.are_names.Goals as goal
-
-pub returns : goal.returns
-returns c = all_from_yields_List is_name _ _ _ c.all.ensures.ran (YieldsList-from_str_split 46 c.args.text.now (lit< tt) c.split.ensures.text c.split.ensures.has_more c.split.ensures.pattern) (λ x b q k. search (rules, tests))
