@@ -3,4 +3,3 @@ pub mod TurnLaws
 pub mod SumLaws
 pub mod ClientLaws
 pub mod HoldingLaws
-pub mod FixtureLaws

@@ -2,4 +2,3 @@ pub mod Machine
 pub mod Holding
 pub mod View
 pub mod Keeps
-pub mod Fixture

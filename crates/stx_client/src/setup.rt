@@ -29,7 +29,7 @@ impl Setup {
     {
         let classes = match ClassTree::build(alloc, &scenario.classes) {
             Ok(classes) => classes,
-            Err(ClassFault::NoMemory) => return Err(NoMemory),
+            Err(ClassFault::NoMemory(refused)) => return Err(refused),
             Err(_) => unreachable!(),
         };
         let attributes = Attributes::resolve(alloc, &scenario)?;

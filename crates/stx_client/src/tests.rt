@@ -11,11 +11,11 @@ ghost use Rattle.stx_base.specs.Notes.{call_want, pool_call_want, store_call_wan
 use crate::{Client, Setup};
 use std::alloc::Global;
 use std::test::Fail;
-use stx_classes::ClassTree;
 use stx_base::{
     Access, Answer, Call, Connection, Ending, Kind, Line, PoolAnswer, PoolCall, Reply, Session,
     StoreAnswer, StoreCall, Want,
 };
+use stx_classes::ClassTree;
 use stx_scenario::{
     ARITHMETIC_EXCEPTION, Bean, BeanNo, CANNOT_ACQUIRE_LOCK_EXCEPTION,
     CANNOT_CREATE_TRANSACTION_EXCEPTION, ClassDecl, ClassNo, ERROR, EXCEPTION,

@@ -15,13 +15,7 @@ use stx_base::{Kind, Line, Note, PoolNote, StoreNote};
 use stx_scenario::{CANNOT_CREATE_TRANSACTION_EXCEPTION, Roomy, SyncMode};
 
 /// Goes on after a note that answers the stage's want.
-pub(crate) fn hear(
-    setup: &Setup,
-    number: u32,
-    at: At,
-    note: Note,
-    lines: &mut Roomy<Line>,
-) -> At
+pub(crate) fn hear(setup: &Setup, number: u32, at: At, note: Note, lines: &mut Roomy<Line>) -> At
     requires playable { IsPlayable setup.now.scenario }
     requires client { number < length setup.now.scenario.clients }
     requires sound { IsSound setup.now.scenario at.top at.stage }
@@ -37,13 +31,7 @@ pub(crate) fn hear(
     }
 }
 
-fn hear_pool(
-    setup: &Setup,
-    number: u32,
-    at: At,
-    note: PoolNote,
-    lines: &mut Roomy<Line>,
-) -> At
+fn hear_pool(setup: &Setup, number: u32, at: At, note: PoolNote, lines: &mut Roomy<Line>) -> At
     requires playable { IsPlayable setup.now.scenario }
     requires client { number < length setup.now.scenario.clients }
     requires sound { IsSound setup.now.scenario at.top at.stage }

@@ -3,4 +3,3 @@ pub mod TurnLaws
 pub mod RangeLaws
 pub mod PlayedLaws
 pub mod ScheduleLaws
-pub mod FixtureLaws
