@@ -1,4 +1,3 @@
-pub mod AskingLaws
 pub mod TurnLaws
 pub mod RangeLaws
 pub mod PlayedLaws

@@ -8,16 +8,15 @@ use Rattle.stx_base.specs.declared.call.Want.{Want}
 use Rattle.stx_model.specs.Flat.{IsFlat}
 use Rattle.stx_model.specs.Meanings.{stop_of}
 use Rattle.stx_base.specs.Stores.{store_reply}
-use Rattle.stx_model.specs.Played.{Turns, no_turns, turn, turns, run_out, replied, want_so_far, most_calls, lines_so_far, outcome_of}
+use Rattle.stx_model.specs.Played.{Turns, turn, turns, run_out, replied, want_so_far, most_calls, lines_so_far, outcome_of}
 use Rattle.stx_model.specs.Faithful.{Faithful}
 use Rattle.stx_model.proofs.PlayedLaw.{faithful_if_done}
-use Rattle.stx_base.specs.Legal.{PoolLegal, StoreLegal}
-use Rattle.stx_client.specs.View.{Playing as ClientView, at_start, script_of, HasReadAll}
+use Rattle.stx_client.specs.View.{lines_of_script, ClientView, script_of, HasReadAll}
 use Rattle.std.proofs.lemmas.Bool.Decides.{eqb_tells}
 use Rattle.stx_model.proofs.EntriesLaw.{entries_within}
-use Rattle.stx_pool.specs.Pool.{Pool, unused}
+use Rattle.stx_pool.specs.Pool.{Pool}
 use Rattle.stx_store.specs.Store.{Store}
-use Rattle.stx_play.specs.Playing.{turns_of, count_entries, client_so_far, HasRead, IsGoing, IsReady, HasTurned, IsClientDone, AllDone, EachEnded, lines_in, HaveReadNothing}
+use Rattle.stx_play.specs.Playing.{turns_of, count_entries, client_so_far, HasRead, IsGoing, IsReady, HasTurned, IsClientDone, AllDone, EachEnded}
 use Rattle.stx_play.proofs.RangeLaws.{set_range}
 
 module _ (S : Scenario) (pool : Pool) (store : Store) (views : List ClientView) (going : IsGoing S pool store views) where
@@ -61,10 +60,10 @@ module _ (S : Scenario) (pool : Pool) (store : Store) (views : List ClientView) 
       (ap (λ v. v.failed) own, ap (λ v. stop_of (script_of v)) own ∙ done k below)
 
   -- and the lines are those of the scripts
-  pub lines_are : map lines_in views ≡ map (lines_so_far S (turns_of pool store)) (range_with_len 0 (length S.clients))
-  lines_are = ap (map lines_in) going.clients ∙ twice (range_with_len 0 (length S.clients))
+  pub lines_are : map lines_of_script views ≡ map (lines_so_far S (turns_of pool store)) (range_with_len 0 (length S.clients))
+  lines_are = ap (map lines_of_script) going.clients ∙ twice (range_with_len 0 (length S.clients))
     where
-      twice : (cs : List ℕ) → map lines_in (map (client_so_far S (turns_of pool store)) cs) ≡ map (lines_so_far S (turns_of pool store)) cs
+      twice : (cs : List ℕ) → map lines_of_script (map (client_so_far S (turns_of pool store)) cs) ≡ map (lines_so_far S (turns_of pool store)) cs
       twice [] = refl
       twice (c ∷ cs) = ap (λ ls. lines_so_far S (turns_of pool store) c ∷ ls) (twice cs)
 
@@ -111,19 +110,3 @@ pub turns_to_end : (S : Scenario) (c made : ℕ) (start so_far : Turns) → turn
 turns_to_end S c made start so_far is few done =
     let all : most_calls S ≡ made + (most_calls S - made) = omega (arith, few) in
     ap (λ m. turns S c m start) all ∙ turns_add S c made (most_calls S - made) start ∙ ap (turns S c (most_calls S - made)) is ∙ turns_done S c (most_calls S - made) so_far done
-
--- before the first turn each client is at its start
-pub going_first : (S : Scenario) (pool : Pool) (store : Store) (views : List ClientView) → IsFlat S → pool ≡ unused S.settings.pool → store.values ≡ S.values → store.entries ≡ []
-    → views ≡ map (at_start S) (range_with_len 0 (length S.clients)) → HaveReadNothing S (length S.clients) → IsGoing S pool store views
-going_first S pool store views flat unused_pool values entries starts read =
-    let none : turns_of pool store ≡ no_turns = λ i. record { pool = (unused_pool i).entries; store = entries i } in
-    record {
-      cores = record {
-        size = ap (λ p. p.size) unused_pool;
-        values = values;
-        pool_legal = subst (PoolLegal (length S.clients) S.settings.pool) (sym (ap (λ p. p.entries) unused_pool)) tt;
-        store_legal = subst (StoreLegal (length S.clients) S.values) (sym entries) tt;
-      };
-      clients = starts ∙ ap (λ t. map (client_so_far S t) (range_with_len 0 (length S.clients))) (sym none);
-      reads = λ c below. subst (λ t. HasRead S t c) (sym none) (read c below);
-    }

@@ -1,46 +1,38 @@
 -- A play as contracts see it, and what its fields keep true.
-use Rattle.std.specs.Prelude.{◌≡◌, ℕ, ◌+◌, ◌<◌, ◌≤◌, Bool, false, List, [], length, map, Some, None, unwrap_or}
+use Rattle.std.specs.Prelude.{◌≡◌, ℕ, ◌+◌, ◌<◌, ◌≤◌, Bool, false, List, [], length, map, Some, None, IsTrue}
 use Rattle.std.specs.List.{range_with_len, All}
 use Rattle.stx_scenario.specs.declared.scenario.Scenario.{Scenario}
 use Rattle.stx_base.specs.declared.call.Want.{Want}
-use Rattle.stx_base.specs.declared.call.PoolAnswer.{PoolAnswer}
-use Rattle.stx_base.specs.declared.call.StoreAnswer.{StoreAnswer}
-use Rattle.stx_base.specs.declared.history.PoolNote.{PoolNote}
-use Rattle.stx_base.specs.declared.history.StoreNote.{StoreNote}
+use Rattle.stx_base.specs.declared.call.Call.{Call}
+use Rattle.stx_base.specs.declared.call.Reply.{Reply}
 use Rattle.stx_base.specs.Histories.{pool_notes_of, store_notes_of}
 use Rattle.stx_base.specs.Legal.{PoolLegal, StoreLegal}
 use Rattle.stx_model.specs.Flat.{IsFlat}
 use Rattle.stx_model.specs.Reads.{ReadsAll}
 use Rattle.stx_model.specs.Played.{Turns, no_turns, turn, want_so_far, most_calls}
-use Rattle.stx_base.specs.declared.line.Line.{Line}
-use Rattle.stx_model.specs.Meanings.{state_of, stop_of}
-use Rattle.stx_base.specs.Notes.{pool_note, store_note}
-use Rattle.stx_client.specs.View.{Playing as ClientView, script_of}
-use Rattle.stx_pool.specs.Pool.{Pool}
-use Rattle.stx_store.specs.Store.{Store}
-
--- the note that a call and its answer make
-abbrev pub pool_note_made : Want → PoolAnswer → PoolNote
-pool_note_made want answer = unwrap_or (pool_note want answer) PoolNote.Empty
-
-abbrev pub store_note_made : Want → StoreAnswer → StoreNote
-store_note_made want answer = unwrap_or (store_note want answer) (StoreNote.Begin 0)
+use Rattle.stx_model.specs.Meanings.{stop_of}
+use Rattle.stx_base.specs.Notes.{pool_call_want, store_call_want}
+use Rattle.stx_base.specs.Pools.{pool_proper}
+use Rattle.stx_base.specs.Stores.{store_proper, store_facts}
+use Rattle.stx_client.specs.View.{ClientView, script_of, has_told}
+use Rattle.stx_pool.specs.Pool.{Pool, PoolCallAnswered}
+use Rattle.stx_store.specs.Store.{Store, StoreCallAnswered}
 
 -- ---- a play
 
 -- the histories so far, and whether memory has run out: then it can only be dropped
-pub record Playing : Type 0 where
+pub record PlayView : Type 0 where
   pub scenario : Scenario
   pub so_far : Turns
   pub failed : Bool
 
-abbrev pub unplayed : Scenario → Playing
+abbrev pub unplayed : Scenario → PlayView
 unplayed S = record { scenario = S; so_far = no_turns; failed = false }
 
-abbrev pub with_turn : Playing → ℕ → Playing
+abbrev pub with_turn : PlayView → ℕ → PlayView
 with_turn play c = record { scenario = play.scenario; so_far = turn play.scenario play.so_far c; failed = play.failed }
 
-abbrev pub with_turns : Playing → Turns → Playing
+abbrev pub with_turns : PlayView → Turns → PlayView
 with_turns play so_far = record { scenario = play.scenario; so_far = so_far; failed = play.failed }
 
 abbrev pub IsClientDone : Scenario → Turns → ℕ → Type 0
@@ -54,7 +46,7 @@ abbrev pub count_entries : Turns → ℕ
 count_entries so_far = length so_far.pool + length so_far.store
 
 -- the histories have one entry more, and are still within what the scenario's weight allows
-pub record HasOneMore (old new : Playing) : Type 0 where
+pub record HasOneMore (old new : PlayView) : Type 0 where
   pub one_more : count_entries new.so_far ≡ count_entries old.so_far + 1
   pub within : count_entries new.so_far ≤ most_calls old.scenario
 
@@ -64,23 +56,24 @@ pub record HasOneMore (old new : Playing) : Type 0 where
 abbrev pub turns_of : Pool → Store → Turns
 turns_of pool store = record { pool = pool.entries; store = store.entries }
 
--- a client that has taken in its own notes, with no call out
+-- a client that has taken in its own notes and said their lines, with no call out
 abbrev pub client_so_far : Scenario → Turns → ℕ → ClientView
-client_so_far S so_far c = record {
+client_so_far S so_far c = has_told (record {
   scenario = S;
   number = c;
   pool = pool_notes_of so_far.pool c;
   store = store_notes_of so_far.store c;
   out = None;
   failed = false;
-}
+  said = [];
+})
 
 -- pool and store are those of the scenario, with legal histories
 pub record AreCores (S : Scenario) (pool : Pool) (store : Store) : Type 0 where
   pub size : pool.size ≡ S.settings.pool
-  pub values : store.values ≡ S.values
+  pub facts : store.facts ≡ store_facts S
   pub pool_legal : PoolLegal (length S.clients) S.settings.pool pool.entries
-  pub store_legal : StoreLegal (length S.clients) S.values store.entries
+  pub store_legal : StoreLegal (length S.clients) (store_facts S) store.entries
 
 abbrev pub HasRead : Scenario → Turns → ℕ → Type 0
 HasRead S so_far c = ReadsAll S c (pool_notes_of so_far.pool c) (store_notes_of so_far.store c)
@@ -92,9 +85,22 @@ pub record IsGoing (S : Scenario) (pool : Pool) (store : Store) (views : List Cl
   pub reads : (c : ℕ) → c < length S.clients → HasRead S (turns_of pool store) c
 
 -- what the fields keep
-pub record IsKept (S : Scenario) (failed : Bool) (pool : Pool) (store : Store) (views : List ClientView) : Type 0 where
+pub record KeepsPlay (S : Scenario) (failed : Bool) (pool : Pool) (store : Store) (views : List ClientView) : Type 0 where
   pub flat : IsFlat S
   pub going : failed ≡ false → IsGoing S pool store views
+
+-- ---- a call
+
+-- the call is proper after its client's own entries
+abbrev pub IsCallProper : Pool → Store → ℕ → Call → Type 0
+IsCallProper pool store c (Call.Pool call) = IsTrue (pool_proper (pool_notes_of pool.entries c) (pool_call_want call))
+IsCallProper pool store c (Call.Store call) = IsTrue (store_proper (store_notes_of store.entries c) (store_call_want call))
+
+-- the pool or the store has answered it, and the other is as it was
+abbrev pub IsCallAnswered : Pool → Store → Pool → Store → ℕ → Call → Reply → Type 0
+IsCallAnswered pool store new_pool new_store c (Call.Pool call) (Reply.Pool answer) = PoolCallAnswered pool new_pool c call answer × (new_store ≡ store)
+IsCallAnswered pool store new_pool new_store c (Call.Store call) (Reply.Store answer) = StoreCallAnswered store new_store c call answer × (new_pool ≡ pool)
+IsCallAnswered _ _ _ _ _ _ _ = ⊥
 
 -- ---- a turn
 
@@ -127,6 +133,3 @@ HasEnded client = (client.failed ≡ false) × (stop_of (script_of client) ≡ S
 
 abbrev pub EachEnded : List ClientView → Type 0
 EachEnded views = All HasEnded views
-
-abbrev pub lines_in : ClientView → List Line
-lines_in client = (state_of (script_of client)).lines

@@ -4,14 +4,14 @@ ghost use Rattle.std.specs.List.{range_with_len};
 ghost use Rattle.stx_model.specs.Faithful.{Faithful};
 ghost use Rattle.stx_model.specs.Flat.{IsFlat};
 ghost use Rattle.stx_model.specs.Played.{run_out, outcome_of};
-ghost use Rattle.stx_client.specs.View.{at_start};
-ghost use Rattle.stx_play.specs.Playing.{unplayed, with_turn, with_turns, HasOneMore, IsClientDone, AllDone, EachEnded, lines_in, HaveReadNothing};
+ghost use Rattle.stx_client.specs.View.{new_client, lines_of_script};
+ghost use Rattle.stx_play.specs.Playing.{unplayed, with_turn, with_turns, HasOneMore, IsClientDone, AllDone, EachEnded, HaveReadNothing};
 
 use crate::turn::take_turn;
 use std::alloc::Global;
 use std::marker::Model;
-use stx_client::{Client, Setup};
 use stx_base::{ClientLines, Outcome, Want};
+use stx_client::{Client, Setup};
 use stx_pool::PoolCore;
 use stx_scenario::{List, NoMemory};
 use stx_store::StoreCore;
@@ -27,13 +27,13 @@ pub struct Played<'a> {
 }
 
 impl<'a> Model for Played<'a> {
-    ghost use Rattle.stx_play.specs.Playing.{Playing, IsKept, turns_of};
+    ghost use Rattle.stx_play.specs.Playing.{PlayView, KeepsPlay, turns_of};
 
-    ghost Value = { Playing };
+    ghost Value = { PlayView };
 
     ghost view = { λ p. record { scenario = p.setup.now.scenario; so_far = turns_of p.pool p.store; failed = p.failed } };
 
-    ghost invariant = { λ p. IsKept p.setup.now.scenario p.failed p.pool p.store p.clients.items };
+    ghost invariant = { λ p. KeepsPlay p.setup.now.scenario p.failed p.pool p.store p.clients.items };
 }
 
 impl<'a> Played<'a> {
@@ -144,7 +144,7 @@ impl<'a> Played<'a> {
 // The clients of a scenario, each at its first call.
 fn clients_of<'a>(alloc: Global, setup: &'a Setup) -> Result<Vec<Client<'a>>, NoMemory>
     requires { IsFlat setup.now.scenario }
-    ensures clients { IfOk result (λ clients. clients.items ≡ map (at_start setup.now.scenario) (range_with_len 0 (length setup.now.scenario.clients))) }
+    ensures clients { IfOk result (λ clients. clients.items ≡ map (new_client setup.now.scenario) (range_with_len 0 (length setup.now.scenario.clients))) }
     ensures read { OnOk result (HaveReadNothing setup.now.scenario (length setup.now.scenario.clients)) }
 {
     let mut clients = Vec::new(alloc);
@@ -157,7 +157,7 @@ fn clients_of<'a>(alloc: Global, setup: &'a Setup) -> Result<Vec<Client<'a>>, No
 // The lines of clients that are done, in their order.
 fn lines_of(alloc: Global, clients: Vec<Client<'_>>) -> Result<List<ClientLines>, NoMemory>
     requires { EachEnded clients.items }
-    ensures { IfOk result (λ lines. lines ≡ map lines_in clients.entry.items) }
+    ensures { IfOk result (λ lines. lines ≡ map lines_of_script clients.entry.items) }
 {
     let mut lines = List::new(alloc);
     for client in clients {

@@ -7,8 +7,8 @@ ghost use Rattle.stx_model.specs.Played.{played};
 
 use crate::Played;
 use std::alloc::Global;
-use stx_client::Setup;
 use stx_base::Outcome;
+use stx_client::Setup;
 use stx_scenario::NoMemory;
 
 /// Plays all clients of a scenario: a turn of a client for each entry of the schedule, and then each client to its end,

@@ -8,10 +8,10 @@ ghost use Rattle.stx_play.specs.Fixture.{IsPlain, EachPlain, calls_one_each};
 use crate::{Played, play};
 use std::alloc::Global;
 use std::test::Fail;
-use stx_client::Setup;
 use stx_base::{
     Access, Answer, Ending, Kind, Line, Outcome, PoolEntry, PoolNote, StoreEntry, StoreNote,
 };
+use stx_client::Setup;
 use stx_scenario::{
     ARITHMETIC_EXCEPTION, BeanNo, CANNOT_ACQUIRE_LOCK_EXCEPTION,
     CANNOT_CREATE_TRANSACTION_EXCEPTION, Calls, EXCEPTION, List, Method, MethodNo, Name, NoMemory,

@@ -4,10 +4,9 @@ ghost use Rattle.stx_model.specs.Played.{want_so_far};
 ghost use Rattle.stx_base.specs.declared.call.Want.{Want as WantData};
 ghost use Rattle.stx_play.specs.Playing.{IsReady, HasTurned, turns_of};
 
-use crate::asking::{ask_pool, ask_store};
+use crate::asking::ask;
 use std::alloc::Global;
 use stx_client::Client;
-use stx_base::{Call, Reply};
 use stx_pool::PoolCore;
 use stx_scenario::{NoMemory, Scenario};
 use stx_store::StoreCore;
@@ -25,14 +24,7 @@ pub(crate) fn take_turn(
     requires more { want_so_far scenario.now (turns_of pool.old store.old) number ≢ Some WantData.Done }
     ensures { OnOk result (HasTurned scenario.now number pool.old store.old pool.new store.new machine.new) }
 {
-    match machine.next() {
-        Call::Pool(call) => {
-            let answer = ask_pool(alloc, pool, number, call)?;
-            machine.feed(alloc, Reply::Pool(answer))
-        }
-        Call::Store(call) => {
-            let answer = ask_store(alloc, store, number, call)?;
-            machine.feed(alloc, Reply::Store(answer))
-        }
-    }
+    let call = machine.next();
+    let reply = ask(alloc, pool, store, number, call)?;
+    machine.feed(alloc, reply)
 }
