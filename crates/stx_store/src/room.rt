@@ -16,8 +16,12 @@ pub(crate) fn room_for(
     ensures capacity { vec_capacity entries.old ≤ vec_capacity entries.new }
     ensures ok { IfOk result (λ now. (now ≡ owed + more) × (vec_len entries.new + now + 1 ≤ vec_capacity entries.new)) }
 {
-    let now = owed.checked_add(more).ok_or(NoMemory)?;
-    let wanted = now.checked_add(1).ok_or(NoMemory)?;
+    let Some(now) = owed.checked_add(more) else {
+        return Err(NoMemory::uncountable(owed, more));
+    };
+    let Some(wanted) = now.checked_add(1) else {
+        return Err(NoMemory::uncountable(now, 1));
+    };
     entries.reserve(wanted)?;
     Ok(now)
 }

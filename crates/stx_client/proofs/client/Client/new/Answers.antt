@@ -1,5 +1,5 @@
 -- A client begins with its first call.
-use Rattle.std.proofs.Common.{◌≡◌, ◌∙◌, ◌++◌, [], false, None, sym, ap, arith}
+use Rattle.std.proofs.Common.{◌≡◌, ◌∙◌, ◌++◌, [], false, None, sym, ap}
 use Rattle.stx_model.specs.Meanings.{state_of}
 use Rattle.stx_model.specs.Script.{script}
 use Rattle.stx_model.proofs.FlatForm.{flat_script}
