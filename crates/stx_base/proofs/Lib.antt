@@ -5,6 +5,7 @@ pub mod RowLaws
 pub mod PoolLaws
 pub mod StoreLaws
 pub mod JournalText
+pub mod ValidLaws
 pub mod WayLaws
 pub mod WeightLaws
 pub mod WorkedClasses

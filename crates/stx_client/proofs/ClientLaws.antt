@@ -13,13 +13,15 @@ use Rattle.stx_base.specs.declared.line.Line.{Line}
 use Rattle.stx_base.specs.declared.manager.Ending.{Ending}
 use Rattle.stx_model.specs.Meanings.{Stops, state_of, stop_of, and_then, finally, ask}
 use Rattle.stx_base.specs.Weight.{body_of}
-use Rattle.stx_model.specs.Script.{script, tops, calls_of, body, access_row, completes, gives_back, begins, fresh}
+use Rattle.stx_model.specs.Script.{script, calls_of}
+use Rattle.stx_model.specs.Statements.{access_row, in_transaction}
+use Rattle.stx_model.proofs.FlatForm.{body, completes, gives_back, begins, fresh, tops}
 use Rattle.stx_model.specs.Reads.{ReadsAll, StartsWith}
-use Rattle.stx_model.proofs.Growth.{Grows, finally_grows, and_then_grows, access_grows, nothing_grows, needed_grows, added_grows, body_grows, ends_grows, gives_back_grows, completes_grows, begins_grows, fresh_grows, tops_grows}
+use Rattle.stx_model.proofs.FlatGrowth.{Grows, finally_grows, and_then_grows, access_grows, nothing_grows, needed_grows, added_grows, body_grows, ends_grows, gives_back_grows, completes_grows, begins_grows, fresh_grows, tops_grows}
 use Rattle.stx_client.specs.declared.stage.Then.{Then}
 use Rattle.stx_client.specs.declared.stage.Stage.{Stage}
 use Rattle.stx_client.specs.declared.stage.At.{At}
-use Rattle.stx_client.specs.inner.Machine.{state, attribute_of, context_of, want_of, does, ending, means, run, Hears}
+use Rattle.stx_client.specs.inner.Machine.{state, attribute_of, context_of, local_of, want_of, does, ending, means, run, Hears}
 use Rattle.stx_client.specs.inner.Holding.{has_failed}
 use Rattle.stx_base.specs.declared.history.Note.{Note}
 use Rattle.stx_base.specs.Notes.{is_reply, note_line, note_of}
@@ -29,17 +31,17 @@ use Rattle.stx_client.specs.inner.Keeps.{Keeps}
 -- ---- growth
 
 does_grows : (t : ℕ) (d : Then) (r : Answer) → Grows (does t d r)
-does_grows t Then.Nothing r = nothing_grows r
-does_grows t (Then.Need n) r = needed_grows n r
+does_grows t Then.Nothing r = nothing_grows t r
+does_grows t (Then.Need n) r = needed_grows t n r
 does_grows t (Then.Add k n) r = added_grows t k n r
 
 means_grows : (S : Scenario) (stage : Stage) → Grows (means S stage)
 means_grows S (Stage.Opening m) st = fresh_grows S m (attribute_of S m) st
 means_grows S (Stage.Beginning m c) st = begins_grows S m (attribute_of S m) (Some c) st
 means_grows S (Stage.Accessing scope a d next) st =
-    finally_grows (and_then (access_row scope.tx a (does scope.tx d) st) (body (drop next (body_of S scope.method)))) (ending S scope) st.lines
-    (and_then_grows (access_row scope.tx a (does scope.tx d) st) (body (drop next (body_of S scope.method))) st.lines
-    (access_grows scope.tx a (does scope.tx d) (does_grows scope.tx d) st) (body_grows (drop next (body_of S scope.method))))
+    finally_grows (and_then (access_row (in_transaction scope.tx) a (does scope.tx d) st) (body scope.tx (drop next (body_of S scope.method)))) (ending S scope) st.lines
+    (and_then_grows (access_row (in_transaction scope.tx) a (does scope.tx d) st) (body scope.tx (drop next (body_of S scope.method))) st.lines
+    (access_grows scope.tx a (does scope.tx d) (does_grows scope.tx d) st) (body_grows scope.tx (drop next (body_of S scope.method))))
     (ends_grows S scope.method (attribute_of S scope.method) scope.connection scope.tx)
 means_grows S (Stage.Completing scope e x) st = completes_grows scope.method scope.connection scope.tx e x st
 means_grows S (Stage.GivingBack scope x) st = gives_back_grows scope.method scope.connection x st
@@ -48,14 +50,14 @@ means_grows S Stage.Failed st = ([], sym (append-nil st.lines))
 
 pub run_starts : (S : Scenario) (n : ℕ) (at : At) (lines : List Line) (pool : List PoolNote) (store : List StoreNote) → StartsWith (state_of (run S n at lines pool store)).lines lines
 run_starts S n at lines pool store =
-    let st = state lines (context_of S at.stage) pool store in
+    let st = state lines (context_of S at.stage) (local_of at.stage) pool store in
     finally_grows (means S at.stage st) (λ _. tops S (at.top + 1) (drop (at.top + 1) (calls_of S n))) lines (means_grows S at.stage st)
     (λ _. tops_grows S (at.top + 1) (drop (at.top + 1) (calls_of S n)))
 
 -- ---- stopping
 
 module _ (S : Scenario) (lines : List Line) where
-  pub stops_at : (stage : Stage) → has_failed stage ≡ false → let st = state lines (context_of S stage) [] [] in means S stage st ≡ Stops (want_of stage) st
+  pub stops_at : (stage : Stage) → has_failed stage ≡ false → let st = state lines (context_of S stage) (local_of stage) [] [] in means S stage st ≡ Stops (want_of stage) st
   unfolding ask fresh begins completes gives_back
   stops_at (Stage.Opening m) ok = refl
   stops_at (Stage.Beginning m c) ok = refl
@@ -67,7 +69,7 @@ module _ (S : Scenario) (lines : List Line) where
   stops_at Stage.Done ok = refl
   stops_at Stage.Failed ok = cc
 
-  pub run_stops : (n : ℕ) (at : At) → has_failed at.stage ≡ false → run S n at lines [] [] ≡ Stops (want_of at.stage) (state lines (context_of S at.stage) [] [])
+  pub run_stops : (n : ℕ) (at : At) → has_failed at.stage ≡ false → run S n at lines [] [] ≡ Stops (want_of at.stage) (state lines (context_of S at.stage) (local_of at.stage) [] [])
   run_stops n at ok = ap (λ r. finally r (λ _. tops S (at.top + 1) (drop (at.top + 1) (calls_of S n)))) (stops_at at.stage ok)
 
 -- ---- what a client keeps
@@ -79,7 +81,7 @@ module _ (S : Scenario) (n : ℕ) (at : At) (lines : List Line) (pool : List Poo
   runs_now : script S n pool store ≡ run S n at lines [] []
   runs_now = (λ i. script S n (sym (append-nil pool) i) (sym (append-nil store) i)) ∙ runs [] []
 
-  pub stops_now : has_failed at.stage ≡ false → script S n pool store ≡ Stops (want_of at.stage) (state lines (context_of S at.stage) [] [])
+  pub stops_now : has_failed at.stage ≡ false → script S n pool store ≡ Stops (want_of at.stage) (state lines (context_of S at.stage) (local_of at.stage) [] [])
   stops_now ok = runs_now ∙ run_stops S lines n at ok
 
   pub reads_now : has_failed at.stage ≡ false → ReadsAll S n pool store

@@ -1,9 +1,8 @@
 -- Steps of a machine: what the script says at a statement, at an answer, and at a call.
-use Rattle.std.proofs.Common.{◌⊎◌, inl, inr, get_or, ◌≡◌, ℕ, zero, suc, ◌+◌, ◌<◌, ◌≤◌, Bool, true, List, [], ◌∷◌, ◌++◌, drop, length, Option, Some, None, refl, sym, ap, ◌∙◌, subst, arith, add-one}
-use Rattle.std.specs.Prelude.{slice_get, unwrap_or, nat_lt}
+use Rattle.std.proofs.Common.{◌⊎◌, inl, inr, get_or, ◌≡◌, ℕ, zero, suc, ◌+◌, ◌<◌, ◌≤◌, true, List, [], ◌∷◌, ◌++◌, drop, length, Option, Some, None, refl, sym, ap, ◌∙◌, subst, arith, add-one}
+use Rattle.std.specs.Prelude.{slice_get, unwrap_or, IfSome}
 use Rattle.std.specs.Option.{option_and_then}
-use Rattle.std.specs.List.{list_all}
-use Rattle.std.proofs.lemmas.Bool.{and_parts, ltb-true}
+use Rattle.std.proofs.lemmas.Bool.{false≢true, ltb-true}
 use Rattle.std.proofs.lemmas.Option.{slice_get_cases, slice_get_within}
 use Rattle.stx_scenario.specs.declared.numbers.ClassNo.{ClassNo}
 use Rattle.stx_scenario.specs.declared.numbers.MethodNo.{MethodNo}
@@ -17,15 +16,20 @@ use Rattle.stx_base.specs.declared.history.PoolNote.{PoolNote}
 use Rattle.stx_base.specs.declared.history.StoreNote.{StoreNote}
 use Rattle.stx_base.specs.declared.line.Line.{Line}
 use Rattle.stx_base.specs.Attributes.{attribute, method_attribute}
-use Rattle.stx_model.specs.Contexts.{bare}
-use Rattle.stx_model.specs.Meanings.{State, Stops, Meaning, and_then, finally, say}
+use Rattle.stx_base.specs.Limits.{most_calls}
+use Rattle.stx_base.specs.Valid.{names_known, MethodInOrder, CallsInOrder}
 use Rattle.stx_base.specs.Weight.{body_in, body_of}
-use Rattle.stx_model.specs.Script.{body, statement, statement_in, access_row, throws, fresh, opening_of, intercepted, invoke, tops, calls_of}
-use Rattle.stx_model.specs.Flat.{IsFlat, IsFlatAttribute, HasFlatAttribute, default_attribute, is_flat}
+use Rattle.stx_base.proofs.ValidLaws.{entry_of, HasFewRules, few_rules}
+use Rattle.stx_model.specs.Built.{has_required, is_built, IsBuiltMethod}
+use Rattle.stx_model.specs.Meanings.{State, Stops, Meaning, and_then, finally, say}
+use Rattle.stx_model.specs.Playable.{IsPlayable}
+use Rattle.stx_model.specs.Script.{calls_of}
+use Rattle.stx_model.specs.Statements.{throws, access_row, in_transaction}
+use Rattle.stx_model.proofs.FlatForm.{statement_in, body, fresh, intercepted, invoke, tops}
 use Rattle.stx_client.specs.declared.stage.Scope.{Scope}
 use Rattle.stx_client.specs.declared.stage.Then.{Then}
 use Rattle.stx_client.specs.declared.stage.Stage.{Stage}
-use Rattle.stx_client.specs.inner.Machine.{state, attribute_of, call_line, scope_context, access_in, does, ending, ends_with, goes_on, means, tops_from, later_calls}
+use Rattle.stx_client.specs.inner.Machine.{outside, inside, default_attribute, attribute_of, call_line, access_in, does, ending, ends_with, goes_on, means, tops_from, later_calls}
 
 -- ---- lists by place
 
@@ -45,74 +49,72 @@ drop_past [] (suc i) past = refl
 drop_past (y ∷ ys) zero past = cc
 drop_past (y ∷ ys) (suc i) past = drop_past ys i past
 
-all_at : {X : Type 0} (test : X → Bool) (xs : List X) (i : ℕ) (x : X) → list_all test xs ≡ true → slice_get xs i ≡ Some x → test x ≡ true
-all_at test [] i x all there = cc
-all_at test (y ∷ ys) zero x all there =
-    let first : y ≡ x = cc in
-    let (here, later) = and_parts (test y) (list_all test ys) all in
-    subst (λ z. test z ≡ true) first here
-all_at test (y ∷ ys) (suc i) x all there =
-    let (here, later) = and_parts (test y) (list_all test ys) all in
-    all_at test ys i x later there
-
 -- ---- methods and their bodies
 
 module _ (S : Scenario) (m : MethodNo) (method : Method) (there : slice_get S.methods m.0 ≡ Some method) where
   pub body_is : body_of S m ≡ method.body
   body_is = ap body_in there
 
-  has_attribute : IsFlat S → HasFlatAttribute (attribute S m)
-  has_attribute flat = subst HasFlatAttribute (sym (ap (option_and_then (method_attribute S)) there)) (flat.methods m.0 method there).tx
+  in_order : IsPlayable S → MethodInOrder S method
+  in_order playable = entry_of (MethodInOrder S) S.methods m.0 method playable.order.places.methods there
 
-  pub flat_at : (place : ℕ) (s : Stmt) → IsFlat S → slice_get method.body place ≡ Some s → is_flat (length S.classes) s ≡ true
-  flat_at place s flat here = all_at (is_flat (length S.classes)) method.body place s (flat.methods m.0 method there).body here
+  pub built_at : (place : ℕ) (s : Stmt) → IsPlayable S → slice_get method.body place ≡ Some s → is_built s ≡ true
+  built_at place s playable here =
+      entry_of (λ s. is_built s ≡ true) method.body place s (entry_of (IsBuiltMethod S) S.methods m.0 method playable.built.methods there).body here
 
-  pub few_statements : IsFlat S → length method.body ≤ 256
-  few_statements flat = (flat.methods m.0 method there).few
+  pub known_at : (place : ℕ) (s : Stmt) → IsPlayable S → slice_get method.body place ≡ Some s → names_known S s ≡ true
+  known_at place s playable here = entry_of (λ s. names_known S s ≡ true) method.body place s (in_order playable).body.known here
 
-pub known : (classes : ℕ) (x : ClassNo) (s : Stmt) → s ≡ Stmt.Throw x → is_flat classes s ≡ true → x.0 < classes
-known classes x s is flat =
-    ltb-true x.0 classes (subst (λ z. is_flat classes z ≡ true) is flat)
+  pub few_statements : IsPlayable S → length method.body ≤ 256
+  few_statements playable = (in_order playable).body.few
 
--- a method that there is has an attribute with propagation required
+  has_attribute : IsPlayable S → has_required (attribute S m) ≡ true
+  has_attribute playable =
+      ap (λ o. has_required (option_and_then (method_attribute S) o)) there ∙ (entry_of (IsBuiltMethod S) S.methods m.0 method playable.built.methods there).tx
+
+pub class_known : (S : Scenario) (x : ClassNo) (s : Stmt) → s ≡ Stmt.Throw x → names_known S s ≡ true → x.0 < length S.classes
+class_known S x s is known = ltb-true x.0 (length S.classes) (subst (λ z. names_known S z ≡ true) is known)
+
+-- a method that there is has an attribute, and its rules are few
 pub record HasAttribute (S : Scenario) (m : MethodNo) : Type 0 where
   pub attribute : attribute S m ≡ Some (attribute_of S m)
-  pub flat : IsFlatAttribute (attribute_of S m)
+  pub few_rules : length (attribute_of S m).rules ≤ 64
 
-found : (o : Option TxAttr) → HasFlatAttribute o → (o ≡ Some (unwrap_or o default_attribute)) × IsFlatAttribute (unwrap_or o default_attribute)
-found (Some a) is = (refl, is)
-found None is = elim is [ ]
+found : (o : Option TxAttr) → has_required o ≡ true → o ≡ Some (unwrap_or o default_attribute)
+found (Some a) is = refl
+found None is = absurd (false≢true is)
 
-pub attribute_at : (S : Scenario) (m : MethodNo) → IsFlat S → m.0 < length S.methods → HasAttribute S m
+pub attribute_at : (S : Scenario) (m : MethodNo) → IsPlayable S → m.0 < length S.methods → HasAttribute S m
 unfolding attribute_of
-attribute_at S m flat is_method = either (slice_get_cases S.methods m.0).1
+attribute_at S m playable is_method = either (slice_get_cases S.methods m.0).1
   where
     either : ((x : Method) × (m.0 < length S.methods) × (slice_get S.methods m.0 ≡ Some x) × (get_or S.methods m.0 x ≡ x)) ⊎ ((length S.methods ≤ m.0) × (slice_get S.methods m.0 ≡ None))
         → HasAttribute S m
     either (inl (method, below, there, same)) =
-        let both = found (attribute S m) (has_attribute S m method there flat) in
-        record { attribute = both.0; flat = both.1 }
+        let is = found (attribute S m) (has_attribute S m method there playable) in
+        record { attribute = is; few_rules = subst (λ o. IfSome o HasFewRules) is (few_rules S playable.order m) }
     either (inr (past, none)) = absurd (omega (arith, past, is_method))
 
 -- ---- the statement at a place
 
-same_row : (t : ℕ) (a b : Access) (d e : Then) (st : State) → ◌≡◌ {A = Option (Access × Then)} (Some (a, d)) (Some (b, e)) → access_row t a (does t d) st ≡ access_row t b (does t e) st
+same_row : (t : ℕ) (a b : Access) (d e : Then) (st : State) → ◌≡◌ {A = Option (Access × Then)} (Some (a, d)) (Some (b, e))
+    → access_row (in_transaction t) a (does t d) st ≡ access_row (in_transaction t) b (does t e) st
 same_row t a b d e st is =
     let pair : ◌≡◌ {A = Access × Then} (a, d) (b, e) = cc in
-    λ i. access_row t (pair i).0 (does t (pair i).1) st
+    λ i. access_row (in_transaction t) (pair i).0 (does t (pair i).1) st
 
-on_row : (t : ℕ) (s : Stmt) (a : Access) (d : Then) (st : State) → access_in s ≡ Some (a, d) → statement_in t s st ≡ access_row t a (does t d) st
-on_row t (Stmt.Read k) a d st is = same_row t (Access.Read k) a Then.Nothing d st is
-on_row t (Stmt.Write k v) a d st is = same_row t (Access.Write k v) a Then.Nothing d st is
-on_row t (Stmt.Erase k) a d st is = same_row t (Access.Erase k) a Then.Nothing d st is
-on_row t (Stmt.Add k v) a d st is = same_row t (Access.Read k) a (Then.Add k v) d st is
-on_row t (Stmt.Need k v) a d st is = same_row t (Access.Read k) a (Then.Need v) d st is
-on_row t (Stmt.Call m c) a d st is = cc
-on_row t (Stmt.This m c) a d st is = cc
-on_row t (Stmt.Throw x) a d st is = cc
-on_row t Stmt.Mark a d st is = cc
-on_row t (Stmt.Publish e) a d st is = cc
-on_row t (Stmt.Register y) a d st is = cc
+row_is : (t : ℕ) (s : Stmt) (a : Access) (d : Then) (st : State) → access_in s ≡ Some (a, d) → statement_in t s st ≡ access_row (in_transaction t) a (does t d) st
+row_is t (Stmt.Read k) a d st is = same_row t (Access.Read k) a Then.Nothing d st is
+row_is t (Stmt.Write k v) a d st is = same_row t (Access.Write k v) a Then.Nothing d st is
+row_is t (Stmt.Erase k) a d st is = same_row t (Access.Erase k) a Then.Nothing d st is
+row_is t (Stmt.Add k v) a d st is = same_row t (Access.Read k) a (Then.Add k v) d st is
+row_is t (Stmt.Need k v) a d st is = same_row t (Access.Read k) a (Then.Need v) d st is
+row_is t (Stmt.Call m c) a d st is = cc
+row_is t (Stmt.This m c) a d st is = cc
+row_is t (Stmt.Throw x) a d st is = cc
+row_is t Stmt.Mark a d st is = cc
+row_is t (Stmt.Publish e) a d st is = cc
+row_is t (Stmt.Register y) a d st is = cc
 
 module _ (S : Scenario) (scope : Scope) (place : ℕ) (method : Method) (there : slice_get S.methods scope.method.0 ≡ Some method) where
   abbrev end : Option ClassNo → Meaning
@@ -122,7 +124,7 @@ module _ (S : Scenario) (scope : Scope) (place : ℕ) (method : Method) (there :
   unfolding body
   no_statement past st =
       let rest : drop place (body_of S scope.method) ≡ [] = ap (drop place) (body_is S scope.method method there) ∙ drop_past method.body place past in
-      ap (λ b. finally (body b st) end) rest
+      ap (λ b. finally (body scope.tx b st) end) rest
 
   module _ (s : Stmt) (here : slice_get method.body place ≡ Some s) where
     rest : drop place (body_of S scope.method) ≡ s ∷ drop (place + 1) (body_of S scope.method)
@@ -131,21 +133,21 @@ module _ (S : Scenario) (scope : Scope) (place : ℕ) (method : Method) (there :
         ap (drop place) is ∙ drop_at method.body place s here ∙ ap (λ b. s ∷ drop (place + 1) b) (sym is)
 
     pub at_access : (a : Access) (d : Then) → access_in s ≡ Some (a, d) → (lines : List Line) (pool : List PoolNote) (store : List StoreNote)
-        → goes_on S scope place (state lines (scope_context S scope) pool store)
-        ≡ means S (Stage.Accessing scope a d (place + 1)) (state lines (scope_context S scope) pool store)
-    unfolding body statement
+        → goes_on S scope place (inside S scope lines pool store)
+        ≡ means S (Stage.Accessing scope a d (place + 1)) (inside S scope lines pool store)
+    unfolding body
     at_access a d is lines pool store =
-        let st = state lines (scope_context S scope) pool store in
-        ap (λ b. finally (body b st) end) rest
-        ∙ ap (λ r. finally (and_then r (body (drop (place + 1) (body_of S scope.method)))) end) (on_row scope.tx s a d st is)
+        let st = inside S scope lines pool store in
+        ap (λ b. finally (body scope.tx b st) end) rest
+        ∙ ap (λ r. finally (and_then r (body scope.tx (drop (place + 1) (body_of S scope.method)))) end) (row_is scope.tx s a d st is)
 
     pub at_throw : (x : ClassNo) → s ≡ Stmt.Throw x → (lines : List Line) (pool : List PoolNote) (store : List StoreNote)
-        → goes_on S scope place (state lines (scope_context S scope) pool store) ≡ ends_with S scope (throws x) (state lines (scope_context S scope) pool store)
-    unfolding body statement
+        → goes_on S scope place (inside S scope lines pool store) ≡ ends_with S scope (throws x) (inside S scope lines pool store)
+    unfolding body
     at_throw x is lines pool store =
-        let st = state lines (scope_context S scope) pool store in
-        ap (λ b. finally (body b st) end) rest
-        ∙ ap (λ z. finally (and_then (statement z st) (body (drop (place + 1) (body_of S scope.method)))) end) is
+        let st = inside S scope lines pool store in
+        ap (λ b. finally (body scope.tx b st) end) rest
+        ∙ ap (λ z. finally (and_then (statement_in scope.tx z st) (body scope.tx (drop (place + 1) (body_of S scope.method)))) end) is
 
 -- ---- the calls of a client
 
@@ -157,25 +159,26 @@ module _ (S : Scenario) (n top : ℕ) (calls : List MethodNo) (there : slice_get
   unfolding tops
   no_call past st = ap (λ cs. tops S top cs st) (calls_are ∙ drop_past calls top past)
 
-  module _ (m : MethodNo) (here : slice_get calls top ≡ Some m) (flat : IsFlat S) where
-    pub is_method : m.0 < length S.methods
-    is_method = ltb-true m.0 (length S.methods) (all_at (λ m. nat_lt m.0 (length S.methods)) calls top m (flat.clients n calls there).there here)
+  module _ (m : MethodNo) (here : slice_get calls top ≡ Some m) (playable : IsPlayable S) where
+    in_order_calls : CallsInOrder S calls
+    in_order_calls = entry_of (CallsInOrder S) S.clients n calls playable.order.places.clients there
 
-    pub is_early : top < 64
+    pub is_method : m.0 < length S.methods
+    is_method = entry_of (λ m. m.0 < length S.methods) calls top m in_order_calls.methods here
+
+    pub is_early : top < most_calls
     is_early =
         let within = slice_get_within calls top m here in
-        let few = (flat.clients n calls there).few in
+        let few = in_order_calls.few in
         omega (arith, within, few)
 
     pub one_call : (lines : List Line) (pool : List PoolNote) (store : List StoreNote)
-        → tops_from S n top (state lines bare pool store)
-        ≡ later_calls S n top (fresh S m (attribute_of S m) (state ((lines ++ Line.Top top ∷ []) ++ call_line S m ∷ []) bare pool store))
+        → tops_from S n top (outside lines pool store)
+        ≡ later_calls S n top (fresh S m (attribute_of S m) (outside ((lines ++ Line.Top top ∷ []) ++ call_line S m ∷ []) pool store))
     unfolding tops invoke
     one_call lines pool store =
-        let st = state lines bare pool store in
-        let has = attribute_at S m flat is_method in
+        let st = outside lines pool store in
+        let has = attribute_at S m playable is_method in
         let split = calls_are ∙ drop_at calls top m here ∙ ap (λ cs. m ∷ cs) (ap (λ o. drop (top + 1) (unwrap_or o [])) (sym there)) in
-        let called : State = say (call_line S m) (say (Line.Top top) st) in
         ap (λ cs. tops S top cs st) split
         ∙ ap (λ a. finally (intercepted S m a (say (Line.Top top) st)) (λ _. tops S (top + 1) (drop (top + 1) (calls_of S n)))) has.attribute
-        ∙ ap (λ p. finally (opening_of S m (attribute_of S m) p called) (λ _. tops S (top + 1) (drop (top + 1) (calls_of S n)))) has.flat.required

@@ -8,7 +8,7 @@ use Rattle.stx_scenario.specs.declared.classes.TheConstants.{ARITHMETIC_EXCEPTIO
 use Rattle.stx_base.specs.declared.history.Access.{Access}
 use Rattle.stx_base.specs.declared.history.Answer.{Answer}
 use Rattle.stx_model.specs.Meanings.{State, Result}
-use Rattle.stx_model.specs.Script.{is_value, value_of, unless_busy, throws, access_row, nothing_more, added}
+use Rattle.stx_model.specs.Statements.{is_value, value_of, unless_busy, throws, access_row, nothing_more, added, in_transaction}
 use Rattle.stx_scenario.specs.declared.scenario.Scenario.{Scenario}
 use Rattle.stx_client.specs.declared.stage.Scope.{Scope}
 use Rattle.stx_client.specs.declared.stage.Then.{Then}
@@ -41,29 +41,29 @@ sum_is v n (Some sum) (fits, is) = ap Some is ∙ sym (if_true (is_value (v +ℤ
 
 -- what an add does, by the sum that was found
 added_by : (b : Bool) (v : ℤ) (t : ℕ) (k : RowNo) (st : State) → Result
-added_by b v t k st = elim b [ true ↦ access_row t (Access.Write k v) nothing_more st | false ↦ throws ARITHMETIC_EXCEPTION st ]
+added_by b v t k st = elim b [ true ↦ access_row (in_transaction t) (Access.Write k v) (nothing_more (in_transaction t)) st | false ↦ throws ARITHMETIC_EXCEPTION st ]
 
 module _ (v : ℤ) (t : ℕ) (k : RowNo) (st : State) where
-  by_some : (b : Bool) (w sum : ℤ) → (if b then Some w else None) ≡ Some sum → added_by b w t k st ≡ access_row t (Access.Write k sum) nothing_more st
+  by_some : (b : Bool) (w sum : ℤ) → (if b then Some w else None) ≡ Some sum → added_by b w t k st ≡ access_row (in_transaction t) (Access.Write k sum) (nothing_more (in_transaction t)) st
   unfolding added_by
   by_some true w sum is =
       let same : w ≡ sum = cc in
-      ap (λ z. access_row t (Access.Write k z) nothing_more st) same
+      ap (λ z. access_row (in_transaction t) (Access.Write k z) (nothing_more (in_transaction t)) st) same
   by_some false w sum is = cc
 
-pub added_some : (answer : Answer) (t : ℕ) (k : RowNo) (n sum : ℤ) (st : State) → sum_of (value_of answer) n ≡ Some sum → added t k n answer st ≡ access_row t (Access.Write k sum) nothing_more st
+pub added_some : (answer : Answer) (t : ℕ) (k : RowNo) (n sum : ℤ) (st : State) → sum_of (value_of answer) n ≡ Some sum → added (in_transaction t) k n answer st ≡ access_row (in_transaction t) (Access.Write k sum) (nothing_more (in_transaction t)) st
 unfolding added_by
 added_some answer t k n sum st is = by_some n t k st (is_value (value_of answer +ℤ n)) (value_of answer +ℤ n) sum is
 
 -- after the read of an add whose sum is a value, the sum is written
 pub hears_sum : (S : Scenario) (scope : Scope) (next : ℕ) (d : Then) (answer : Answer) (k : RowNo) (n sum : ℤ) (st : State)
     → d ≡ Then.Add k n → ((t : ℕ) → answer ≡ Answer.Busy t → ⊥) → sum_of (value_of answer) n ≡ Some sum
-    → hears S scope d next answer st ≡ rest_of_body S scope next (access_row scope.tx (Access.Write k sum) nothing_more st)
+    → hears S scope d next answer st ≡ rest_of_body S scope next (access_row (in_transaction scope.tx) (Access.Write k sum) (nothing_more (in_transaction scope.tx)) st)
 hears_sum S scope next d answer k n sum st is free sum_is =
     ap (λ d. hears S scope d next answer st) is ∙ ap (rest_of_body S scope next) (by_answer answer free sum_is)
   where
     by_answer : (answer : Answer) → ((t : ℕ) → answer ≡ Answer.Busy t → ⊥) → sum_of (value_of answer) n ≡ Some sum
-        → unless_busy (added scope.tx k n) answer st ≡ access_row scope.tx (Access.Write k sum) nothing_more st
+        → unless_busy (in_transaction scope.tx) (added (in_transaction scope.tx) k n) answer st ≡ access_row (in_transaction scope.tx) (Access.Write k sum) (nothing_more (in_transaction scope.tx)) st
     by_answer (Answer.Busy t) free sum_is = absurd (free t refl)
     by_answer (Answer.Found v) free sum_is = added_some (Answer.Found v) scope.tx k n sum st sum_is
     by_answer Answer.Absent free sum_is = added_some Answer.Absent scope.tx k n sum st sum_is

@@ -4,8 +4,9 @@ ghost use Rattle.stx_scenario.specs.declared.scenario.Stmt.{Stmt as StmtData};
 ghost use Rattle.stx_base.specs.declared.history.Access.{Access as AccessData};
 ghost use Rattle.stx_client.specs.declared.stage.Stage.{Stage as StageData};
 ghost use Rattle.stx_client.specs.declared.stage.Then.{Then as ThenData};
-ghost use Rattle.stx_model.specs.Flat.{IsFlat, is_flat};
-ghost use Rattle.stx_model.specs.Script.{value_of as value_in};
+ghost use Rattle.stx_model.specs.Built.{is_built};
+ghost use Rattle.stx_model.specs.Playable.{IsPlayable};
+ghost use Rattle.stx_model.specs.Statements.{value_of as value_in};
 ghost use Rattle.stx_client.specs.inner.Machine.{Comes, IsIn, IsMethod, access_in, goes_on, hears, sum_of};
 
 use crate::ending::{ended, thrown};
@@ -19,7 +20,7 @@ use stx_scenario::{
 
 /// Goes on with the statement at this place, or ends the scope after the last.
 pub(crate) fn goes_to(setup: &Setup, scope: Scope, place: usize, lines: &mut Roomy<Line>) -> Stage
-    requires flat { IsFlat setup.now.scenario }
+    requires playable { IsPlayable setup.now.scenario }
     requires method { IsMethod setup.now.scenario scope.method }
     requires room { 3 ≤ lines.old.spare }
     ensures goes { Comes setup.now.scenario scope (goes_on setup.now.scenario scope place) lines.old.items result lines.new.items }
@@ -55,7 +56,7 @@ fn access_of(statement: Stmt) -> Option<(Access, Then)>
 
 // The class that the statement throws.
 fn class_of(statement: Stmt) -> ClassNo
-    requires flat { (classes : ℕ) × (is_flat classes statement ≡ true) }
+    requires built { is_built statement ≡ true }
     requires other { access_in statement ≡ None }
     ensures { statement ≡ StmtData.Throw result }
 {
@@ -74,7 +75,7 @@ pub(crate) fn answered(
     answer: Answer,
     lines: &mut Roomy<Line>,
 ) -> Stage
-    requires flat { IsFlat setup.now.scenario }
+    requires playable { IsPlayable setup.now.scenario }
     requires method { IsMethod setup.now.scenario scope.method }
     requires room { 3 ≤ lines.old.spare }
     ensures goes { Comes setup.now.scenario scope (hears setup.now.scenario scope then next answer) lines.old.items result lines.new.items }

@@ -1,9 +1,8 @@
 // The calls of a client, one after the other.
 ghost use Rattle.std.specs.Prelude.{◌≡◌, ◌≤◌, ◌<◌, length};
 ghost use Rattle.stx_base.specs.Limits.{most_calls};
-ghost use Rattle.stx_model.specs.Contexts.{bare};
-ghost use Rattle.stx_model.specs.Flat.{IsFlat};
-ghost use Rattle.stx_model.specs.Script.{tops, calls_of, leaves};
+ghost use Rattle.stx_model.specs.Playable.{IsPlayable};
+ghost use Rattle.stx_model.specs.Scopes.{leaves};
 ghost use Rattle.stx_client.specs.inner.Holding.{IsBetween};
 ghost use Rattle.stx_client.specs.inner.Machine.{Runs, IsMethod, IsSound, attribute_of as attribute_in, call_line, later_calls, tops_from};
 
@@ -14,10 +13,10 @@ use stx_scenario::{ClassNo, MethodNo, Roomy, TxAttr};
 
 /// Goes on with the client's call at this place, if there is one.
 pub(crate) fn call_at(setup: &Setup, number: u32, top: usize, lines: &mut Roomy<Line>) -> At
-    requires flat { IsFlat setup.now.scenario }
+    requires playable { IsPlayable setup.now.scenario }
     requires client { number < length setup.now.scenario.clients }
     requires room { 2 ≤ lines.old.spare }
-    ensures goes { Runs setup.now.scenario number bare (tops_from setup.now.scenario number top) lines.old.items result lines.new.items }
+    ensures goes { Runs setup.now.scenario number (tops_from setup.now.scenario number top) lines.old.items result lines.new.items }
     ensures there { IsSound setup.now.scenario result.top result.stage }
     ensures between { IsBetween result.stage }
 {
@@ -39,7 +38,7 @@ pub(crate) fn call_at(setup: &Setup, number: u32, top: usize, lines: &mut Roomy<
 
 // The line of a call.
 fn called(setup: &Setup, method: MethodNo) -> Line
-    requires flat { IsFlat setup.now.scenario }
+    requires playable { IsPlayable setup.now.scenario }
     requires method { IsMethod setup.now.scenario method }
     ensures { result ≡ call_line setup.now.scenario method }
 {
@@ -53,7 +52,7 @@ fn called(setup: &Setup, method: MethodNo) -> Line
 
 /// The attribute of a method: its own, or its bean's.
 pub(crate) fn attribute_of(setup: &Setup, method: MethodNo) -> &TxAttr
-    requires flat { IsFlat setup.now.scenario }
+    requires playable { IsPlayable setup.now.scenario }
     requires method { IsMethod setup.now.scenario method }
     ensures { result.now ≡ attribute_in setup.now.scenario method }
 {
@@ -72,11 +71,11 @@ pub(crate) fn leave(
     thrown: Option<ClassNo>,
     lines: &mut Roomy<Line>,
 ) -> At
-    requires flat { IsFlat setup.now.scenario }
+    requires playable { IsPlayable setup.now.scenario }
     requires client { number < length setup.now.scenario.clients }
     requires top { top < most_calls }
     requires room { 3 ≤ lines.old.spare }
-    ensures goes { Runs setup.now.scenario number bare (λ st. later_calls setup.now.scenario number top (leaves method thrown st)) lines.old.items result lines.new.items }
+    ensures goes { Runs setup.now.scenario number (λ st. later_calls setup.now.scenario number top (leaves method thrown st)) lines.old.items result lines.new.items }
     ensures there { IsSound setup.now.scenario result.top result.stage }
     ensures between { IsBetween result.stage }
 {

@@ -3,7 +3,7 @@ ghost use Rattle.std.specs.Prelude.{◌≡◌, ◌≢◌, ◌<◌, ◌≤◌, �
 ghost use Rattle.stx_base.specs.declared.call.Want.{Want as WantData};
 ghost use Rattle.stx_base.specs.Notes.{call_want, is_reply};
 ghost use Rattle.stx_model.specs.Meanings.{state_of, stop_of};
-ghost use Rattle.stx_model.specs.Flat.{IsFlat};
+ghost use Rattle.stx_model.specs.Playable.{IsPlayable};
 ghost use Rattle.stx_model.specs.Reads.{StartsWith};
 ghost use Rattle.stx_client.specs.View.{new_client, script_of, lines_of_script, calling, fed, failed_at, HasReadAll, IsScript};
 
@@ -54,7 +54,7 @@ impl<'a> Model for Client<'a> {
 impl<'a> Client<'a> {
     /// A client of this number, from 0, at its first call.
     pub fn new(alloc: Global, setup: &'a Setup, number: u32) -> Result<Client<'a>, NoMemory>
-        requires flat { IsFlat setup.now.scenario }
+        requires playable { IsPlayable setup.now.scenario }
         requires client { number < length setup.now.scenario.clients }
         ensures client { IfOk result (λ client. client ≡ new_client setup.now.scenario number) }
         ensures read { IfOk result (λ client. HasReadAll client) }

@@ -2,8 +2,8 @@
 ghost use Rattle.std.specs.Prelude.{◌≡◌, ◌≤◌, ◌<◌, length};
 ghost use Rattle.stx_model.specs.Meanings.{say};
 ghost use Rattle.stx_base.specs.Rules.{winner as winner_of, rolls_back};
-ghost use Rattle.stx_model.specs.Script.{throws};
-ghost use Rattle.stx_model.specs.Flat.{IsFlat};
+ghost use Rattle.stx_model.specs.Statements.{throws};
+ghost use Rattle.stx_model.specs.Playable.{IsPlayable};
 ghost use Rattle.stx_client.specs.inner.Machine.{Comes, IsIn, IsMethod, attribute_of as attribute_in, ending, ends_with, IsClass};
 
 use crate::calls::attribute_of;
@@ -15,7 +15,7 @@ use stx_scenario::{ClassNo, MethodNo, Roomy};
 
 // What the rules of a method decide where it throws this (`TransactionAspectSupport.completeTransactionAfterThrowing`).
 fn decision(setup: &Setup, method: MethodNo, thrown: ClassNo) -> Decision
-    requires flat { IsFlat setup.now.scenario }
+    requires playable { IsPlayable setup.now.scenario }
     requires method { IsMethod setup.now.scenario method }
     requires thrown { thrown.0 < length setup.now.scenario.classes }
     ensures winner { result.winner ≡ winner_of setup.now.scenario.classes (attribute_in setup.now.scenario method).rules thrown.0 }
@@ -32,7 +32,7 @@ pub(crate) fn ended(
     thrown: Option<ClassNo>,
     lines: &mut Roomy<Line>,
 ) -> Stage
-    requires flat { IsFlat setup.now.scenario }
+    requires playable { IsPlayable setup.now.scenario }
     requires method { IsMethod setup.now.scenario scope.method }
     requires class { IsClass setup.now.scenario thrown }
     requires room { 2 ≤ lines.old.spare }
@@ -60,7 +60,7 @@ pub(crate) fn ended(
 
 /// Ends a scope in whose body an exception of this class arises.
 pub(crate) fn thrown(setup: &Setup, scope: Scope, class: ClassNo, lines: &mut Roomy<Line>) -> Stage
-    requires flat { IsFlat setup.now.scenario }
+    requires playable { IsPlayable setup.now.scenario }
     requires method { IsMethod setup.now.scenario scope.method }
     requires class { class.0 < length setup.now.scenario.classes }
     requires room { 3 ≤ lines.old.spare }

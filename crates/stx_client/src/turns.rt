@@ -2,8 +2,8 @@
 ghost use Rattle.std.specs.Prelude.{◌≡◌, ◌≤◌, ◌<◌, length, IsTrue};
 ghost use Rattle.stx_base.specs.declared.history.Note.{Note as NoteData};
 ghost use Rattle.stx_base.specs.Notes.{is_answer, pool_answers, store_answers};
-ghost use Rattle.stx_model.specs.Flat.{IsFlat};
-ghost use Rattle.stx_model.specs.Script.{owns_fresh as owns_in};
+ghost use Rattle.stx_model.specs.Playable.{IsPlayable};
+ghost use Rattle.stx_model.specs.Opening.{owns_fresh as owns_in};
 ghost use Rattle.stx_client.specs.inner.Holding.{Passes};
 ghost use Rattle.stx_client.specs.inner.Machine.{IsSound, IsMethod, IsIn, Hears, HearsPool, HearsStore, Opens, want_of};
 
@@ -16,7 +16,7 @@ use stx_scenario::{CANNOT_CREATE_TRANSACTION_EXCEPTION, Roomy, SyncMode};
 
 /// Goes on after a note that answers the stage's want.
 pub(crate) fn hear(setup: &Setup, number: u32, at: At, note: Note, lines: &mut Roomy<Line>) -> At
-    requires flat { IsFlat setup.now.scenario }
+    requires playable { IsPlayable setup.now.scenario }
     requires client { number < length setup.now.scenario.clients }
     requires sound { IsSound setup.now.scenario at.top at.stage }
     requires answers { IsTrue (is_answer (want_of at.stage) note) }
@@ -32,7 +32,7 @@ pub(crate) fn hear(setup: &Setup, number: u32, at: At, note: Note, lines: &mut R
 }
 
 fn hear_pool(setup: &Setup, number: u32, at: At, note: PoolNote, lines: &mut Roomy<Line>) -> At
-    requires flat { IsFlat setup.now.scenario }
+    requires playable { IsPlayable setup.now.scenario }
     requires client { number < length setup.now.scenario.clients }
     requires sound { IsSound setup.now.scenario at.top at.stage }
     requires answers { IsTrue (pool_answers (want_of at.stage) note) }
@@ -59,7 +59,7 @@ fn hear_pool(setup: &Setup, number: u32, at: At, note: PoolNote, lines: &mut Roo
 }
 
 fn hear_store(setup: &Setup, at: At, note: StoreNote, lines: &mut Roomy<Line>) -> At
-    requires flat { IsFlat setup.now.scenario }
+    requires playable { IsPlayable setup.now.scenario }
     requires sound { IsSound setup.now.scenario at.top at.stage }
     requires answers { IsTrue (store_answers (want_of at.stage) note) }
     requires room { 4 ≤ lines.old.spare }
@@ -99,7 +99,7 @@ fn hear_store(setup: &Setup, at: At, note: StoreNote, lines: &mut Roomy<Line>) -
 
 // Opens a scope, and goes on with the first statement of its body.
 fn open(setup: &Setup, scope: Scope, lines: &mut Roomy<Line>) -> Stage
-    requires flat { IsFlat setup.now.scenario }
+    requires playable { IsPlayable setup.now.scenario }
     requires method { IsMethod setup.now.scenario scope.method }
     requires room { 4 ≤ lines.old.spare }
     ensures goes { Opens setup.now.scenario scope lines.old.items result lines.new.items }

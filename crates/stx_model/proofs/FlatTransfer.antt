@@ -1,11 +1,11 @@
 -- The script of a scenario whose forms are built is the flat one.
 use Rattle.std.proofs.Common.{◌≡◌, ℕ, zero, suc, ◌+◌, ◌<◌, ◌==◌, Bool, true, false, ℤ, ◌+ℤ◌, List, [], ◌∷◌, ◌++◌, length, map, Option, Some, None, refl, sym, ap, ◌∙◌, subst, arith, ne_eqb}
 use Rattle.std.specs.Prelude.{int_lt, slice_get, ⊤}
-use Rattle.std.specs.List.{All, AllPass, flat_map}
+use Rattle.std.specs.List.{AllPass, flat_map}
 use Rattle.std.specs.Option.{option_and_then}
 use Rattle.std.proofs.lemmas.Bool.{false≢true}
-use Rattle.std.proofs.lemmas.List.Elements.{All-head, All-tail, All-get_or}
-use Rattle.std.proofs.lemmas.Option.{slice_get_within, get_or_from_slice_get}
+use Rattle.std.proofs.lemmas.List.Elements.{All-head, All-tail}
+use Rattle.std.proofs.lemmas.Option.{slice_get_within}
 use Rattle.stx_scenario.specs.declared.numbers.ClassNo.{ClassNo}
 use Rattle.stx_scenario.specs.declared.numbers.MethodNo.{MethodNo}
 use Rattle.stx_scenario.specs.declared.numbers.RowNo.{RowNo}
@@ -26,6 +26,7 @@ use Rattle.stx_base.specs.declared.manager.Opening.{Opening}
 use Rattle.stx_base.specs.declared.manager.Ending.{Ending}
 use Rattle.stx_base.specs.Attributes.{method_attribute, attribute}
 use Rattle.stx_base.specs.Weight.{body_in, body_of, above, led, leads, longest, rank}
+use Rattle.stx_base.proofs.ValidLaws.{entry_of}
 use Rattle.stx_model.specs.Contexts.{Context, Live, bare}
 use Rattle.stx_model.specs.Opening.{owns_fresh, opening_without, opening}
 use Rattle.stx_model.specs.Ending.{ending, completion, Resumption}
@@ -333,10 +334,6 @@ called_last S m (suc more) st is =
     ∙ called_last S m more st is
 
 -- ---- the methods of a scenario whose forms are built
-
--- an entry of a list of which each is so
-entry_of : {A : Type 0} (P : A → Type 0) (xs : List A) (k : ℕ) (x : A) → All P xs → slice_get xs k ≡ Some x → P x
-entry_of P xs k x all there = subst P (get_or_from_slice_get xs k x x there) (All-get_or P xs k x (slice_get_within xs k x there) all)
 
 is_the_required : (p : Propagation) → is_required p ≡ true → p ≡ Propagation.Required
 is_the_required Propagation.Required is = refl

@@ -9,6 +9,7 @@ pub mod Rounds
 pub mod Scopes
 pub mod Script
 pub mod Built
+pub mod Playable
 pub mod Played
 pub mod Faithful
 pub mod Reads

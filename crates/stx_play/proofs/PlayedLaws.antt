@@ -5,7 +5,7 @@ use Rattle.std.specs.List.{range_with_len}
 use Rattle.std.proofs.lemmas.List.FromFn.{length-map-range_with_len, get_or-map-range_with_len}
 use Rattle.stx_scenario.specs.declared.scenario.Scenario.{Scenario}
 use Rattle.stx_base.specs.declared.call.Want.{Want}
-use Rattle.stx_model.specs.Flat.{IsFlat}
+use Rattle.stx_model.specs.Playable.{IsPlayable}
 use Rattle.stx_model.specs.Meanings.{stop_of}
 use Rattle.stx_base.specs.Stores.{store_reply}
 use Rattle.stx_model.specs.Played.{Turns, turn, turns, run_out, replied, want_so_far, most_calls, lines_so_far, outcome_of}
@@ -29,9 +29,9 @@ module _ (S : Scenario) (pool : Pool) (store : Store) (views : List ClientView) 
       let here : 0 + c ≡ c = omega arith in
       ap (λ vs. get_or vs c d) going.clients ∙ get_or-map-range_with_len (client_so_far S (turns_of pool store)) 0 (length S.clients) c c d below here
 
-  pub ready_at : IsFlat S → (c : ℕ) (client : ClientView) → c < length S.clients → client ≡ get_or views c client → IsReady S client c pool store
-  ready_at flat c client below is = record {
-    flat = flat;
+  pub ready_at : IsPlayable S → (c : ℕ) (client : ClientView) → c < length S.clients → client ≡ get_or views c client → IsReady S client c pool store
+  ready_at playable c client below is = record {
+    playable = playable;
     below = below;
     cores = going.cores;
     own = is ∙ view_at c client below;
@@ -68,12 +68,12 @@ module _ (S : Scenario) (pool : Pool) (store : Store) (views : List ClientView) 
       twice [] = refl
       twice (c ∷ cs) = ap (λ ls. lines_so_far S (turns_of pool store) c ∷ ls) (twice cs)
 
-  pub faithful : AllDone S (turns_of pool store) → Faithful S (outcome_of S (turns_of pool store))
-  faithful done = faithful_if_done S (turns_of pool store) going.cores.pool_legal going.cores.store_legal going.reads done
+  pub faithful : IsPlayable S → AllDone S (turns_of pool store) → Faithful S (outcome_of S (turns_of pool store))
+  faithful playable done = faithful_if_done S playable.built (turns_of pool store) going.cores.pool_legal going.cores.store_legal going.reads done
 
   -- the histories are within what the weight allows
-  pub within : count_entries (turns_of pool store) ≤ most_calls S
-  within = entries_within S pool.entries store.entries going.cores.pool_legal going.cores.store_legal going.reads
+  pub within : IsPlayable S → count_entries (turns_of pool store) ≤ most_calls S
+  within playable = entries_within S playable.built pool.entries store.entries going.cores.pool_legal going.cores.store_legal going.reads
 
   -- what a client wants, its script wants
   pub want_at : (c : ℕ) (client : ClientView) (w : Want) → c < length S.clients → client ≡ get_or views c client → (client.failed ≡ false → stop_of (script_of client) ≡ Some w)

@@ -2,7 +2,7 @@
 ghost use Rattle.std.specs.Prelude.{◌≡◌, ◌<◌, ◌↔◌, length, map, false, Some, IfOk, OnOk, IsTrue};
 ghost use Rattle.std.specs.List.{range_with_len};
 ghost use Rattle.stx_model.specs.Faithful.{Faithful};
-ghost use Rattle.stx_model.specs.Flat.{IsFlat};
+ghost use Rattle.stx_model.specs.Playable.{IsPlayable};
 ghost use Rattle.stx_model.specs.Played.{run_out, outcome_of};
 ghost use Rattle.stx_client.specs.View.{new_client, lines_of_script};
 ghost use Rattle.stx_play.specs.Play.{unplayed, with_turn, with_turns, IsClientDone, AllDone};
@@ -41,7 +41,7 @@ impl<'a> Model for Played<'a> {
 impl<'a> Played<'a> {
     /// A play of a scenario, before its first turn.
     pub fn new(alloc: Global, setup: &'a Setup) -> Result<Played<'a>, NoMemory>
-        requires { IsFlat setup.now.scenario }
+        requires { IsPlayable setup.now.scenario }
         ensures { IfOk result (λ play. play ≡ unplayed setup.now.scenario) }
     {
         let pool = PoolCore::new(alloc, setup.scenario.settings.pool)?;
@@ -145,7 +145,7 @@ impl<'a> Played<'a> {
 
 // The clients of a scenario, each at its first call.
 fn clients_of<'a>(alloc: Global, setup: &'a Setup) -> Result<Vec<Client<'a>>, NoMemory>
-    requires { IsFlat setup.now.scenario }
+    requires { IsPlayable setup.now.scenario }
     ensures clients { IfOk result (λ clients. clients.items ≡ map (new_client setup.now.scenario) (range_with_len 0 (length setup.now.scenario.clients))) }
     ensures read { OnOk result (HaveReadNothing setup.now.scenario (length setup.now.scenario.clients)) }
 {

@@ -6,7 +6,7 @@ use Rattle.stx_base.specs.declared.history.StoreNote.{StoreNote}
 use Rattle.stx_base.specs.declared.line.Line.{Line}
 use Rattle.stx_model.specs.Meanings.{state_of}
 use Rattle.stx_model.specs.Script.{script}
-use Rattle.stx_model.specs.Flat.{IsFlat}
+use Rattle.stx_model.specs.Playable.{IsPlayable}
 use Rattle.stx_model.specs.Reads.{StartsWith}
 use Rattle.stx_client.specs.declared.stage.At.{At}
 use Rattle.stx_client.specs.declared.tokens.Tokens.{Tokens}
@@ -15,7 +15,7 @@ use Rattle.stx_client.specs.inner.Holding.{has_failed, holds_connection, holds_s
 
 -- the lines and what is left are the script, whatever notes are still to come
 pub record Keeps (S : Scenario) (n : ℕ) (at : At) (lines : List Line) (pool : List PoolNote) (store : List StoreNote) : Type 0 where
-  pub flat : IsFlat S
+  pub playable : IsPlayable S
   pub client : n < length S.clients
   pub sound : IsSound S at.top at.stage
   pub runs : has_failed at.stage ≡ false → (p : List PoolNote) (s : List StoreNote) → script S n (pool ++ p) (store ++ s) ≡ run S n at lines p s

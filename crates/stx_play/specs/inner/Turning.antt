@@ -7,7 +7,7 @@ use Rattle.stx_base.specs.declared.call.Call.{Call}
 use Rattle.stx_base.specs.declared.call.Reply.{Reply}
 use Rattle.stx_base.specs.Histories.{pool_notes_of, store_notes_of}
 use Rattle.stx_base.specs.Legal.{PoolLegal, StoreLegal}
-use Rattle.stx_model.specs.Flat.{IsFlat}
+use Rattle.stx_model.specs.Playable.{IsPlayable}
 use Rattle.stx_model.specs.Reads.{ReadsAll}
 use Rattle.stx_model.specs.Played.{Turns, turn, most_calls}
 use Rattle.stx_model.specs.Meanings.{stop_of}
@@ -63,7 +63,7 @@ pub record IsGoing (S : Scenario) (pool : Pool) (store : Store) (views : List Cl
 
 -- what the fields keep
 pub record KeepsPlay (S : Scenario) (failed : Bool) (pool : Pool) (store : Store) (views : List ClientView) : Type 0 where
-  pub flat : IsFlat S
+  pub playable : IsPlayable S
   pub going : failed ≡ false → IsGoing S pool store views
 
 -- ---- a call
@@ -83,7 +83,7 @@ IsCallAnswered _ _ _ _ _ _ _ = ⊥
 
 -- before it: the client of this number has taken in just its own notes, and has read them
 pub record IsReady (S : Scenario) (client : ClientView) (c : ℕ) (pool : Pool) (store : Store) : Type 0 where
-  pub flat : IsFlat S
+  pub playable : IsPlayable S
   pub below : c < length S.clients
   pub cores : AreCores S pool store
   pub own : client ≡ client_so_far S (turns_of pool store) c

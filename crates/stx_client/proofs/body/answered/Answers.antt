@@ -2,10 +2,10 @@
 use Rattle.std.proofs.Common.{rules, ◌≡◌, ◌∙◌, Some, refl, sym, ap, subst, FitsSigned, w64}
 use Rattle.std.proofs.Math.Facts.{to_z-of_z}
 use Rattle.stx_base.specs.declared.history.Access.{Access}
-use Rattle.stx_model.specs.Script.{value_of}
+use Rattle.stx_model.specs.Statements.{value_of}
 use Rattle.stx_client.specs.declared.stage.Stage.{Stage}
 use Rattle.stx_client.specs.declared.stage.Then.{Then}
-use Rattle.stx_client.specs.inner.Machine.{state, scope_context, means, IsIn, sum_of}
+use Rattle.stx_client.specs.inner.Machine.{inside, means, IsIn, sum_of}
 use Rattle.stx_client.proofs.SumLaws.{hears_sum}
 use Rattle.stx_client.proofs.body.answered.Goals as goal
 
@@ -22,7 +22,7 @@ returns-in-Some c =
     c.writing.ensures ∙ ap (λ v. Stage.Accessing scope (Access.Write c.in-Add.row v) Then.Nothing c.args.next) (to_z-of_z sum) in
     record {
       goes = λ pool store.
-          let st = state c.args.lines.now.items (scope_context S scope) pool store in
+          let st = inside S scope c.args.lines.now.items pool store in
           hears_sum S scope c.args.next c.args.then c.args.answer c.in-Add.row c.in-Add.more c.in-Some.sum st c.in-Add.is c.in_default.not-Busy summed
           ∙ ap (λ s. means S s st) (sym stage);
       inside = subst (IsIn scope) (sym stage) refl;

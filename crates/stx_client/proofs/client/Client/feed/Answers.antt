@@ -17,7 +17,7 @@ invariant_of-self c =
     let pool_is : c.make_room.new.notes.pool.items ≡ pool_with i.notes.pool.items note = c.make_room.ensures.pool ∙ c.push.ensures.pool in
     let store_is : c.make_room.new.notes.store.items ≡ store_with i.notes.store.items note = c.make_room.ensures.store ∙ c.push.ensures.store in (
       record {
-        flat = k.flat;
+        playable = k.playable;
         client = k.client;
         sound = tt;
         runs = not_failed;
@@ -66,7 +66,7 @@ invariant_of-self-2 c =
     let taken : i.tokens.connection ≡ holds_connection true i.at.stage = h.connection ok ∙ ap (λ o. holds_connection o i.at.stage) out in
     let begun : i.tokens.session ≡ holds_session true i.at.stage = h.session ok ∙ ap (λ o. holds_session o i.at.stage) out in (
       record {
-        flat = k.flat;
+        playable = k.playable;
         client = k.client;
         sound = c.hear-self-inside.ensures.sound;
         runs = λ _. runs_on c;

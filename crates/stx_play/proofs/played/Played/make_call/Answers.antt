@@ -17,7 +17,7 @@ take_turn-requires-clause-ready c =
     let S = i.setup.now.scenario in
     let going = c.self.invariant.going (ap (λ v. v.failed) c.self.view_is ∙ c.requires.going) in
     let below : c.args.client < length S.clients = subst (λ v. c.args.client < length v.scenario.clients) (sym c.self.view_is) c.requires.client in
-    ready_at S i.pool i.store i.clients.items going c.self.invariant.flat c.args.client c.index_mut.result.now below c.index_mut.ensures.value
+    ready_at S i.pool i.store i.clients.items going c.self.invariant.playable c.args.client c.index_mut.result.now below c.index_mut.ensures.value
 
 pub invariant_of-self-2 : goal.invariant_of-self-2
 invariant_of-self-2 c =
@@ -26,7 +26,7 @@ invariant_of-self-2 c =
     let going = c.self.invariant.going (ap (λ v. v.failed) c.self.view_is ∙ c.requires.going) in
     let below : c.args.client < length S.clients = subst (λ v. c.args.client < length v.scenario.clients) (sym c.self.view_is) c.requires.client in
     record {
-      flat = c.self.invariant.flat;
+      playable = c.self.invariant.playable;
       going = λ _. going_after S i.pool i.store i.clients.items going c.args.client c.take_turn.new.pool c.take_turn.new.store c.take_turn.new.machine below c.in_ok-take_turn.ensures;
     }
 
@@ -37,4 +37,4 @@ returns-clause-one_more c =
     let going = c.self.invariant.going (ap (λ v. v.failed) c.self.view_is ∙ c.requires.going) in
     let below : c.args.client < length S.clients = subst (λ v. c.args.client < length v.scenario.clients) (sym c.self.view_is) c.requires.client in
     let after = going_after S i.pool i.store i.clients.items going c.args.client c.take_turn.new.pool c.take_turn.new.store c.take_turn.new.machine below c.in_ok-take_turn.ensures in
-    rw (← c.self.view_is) (record { one_more = c.in_ok-take_turn.ensures.one_more; within = within S c.take_turn.new.pool c.take_turn.new.store _ after })
+    rw (← c.self.view_is) (record { one_more = c.in_ok-take_turn.ensures.one_more; within = within S c.take_turn.new.pool c.take_turn.new.store _ after c.self.invariant.playable })
