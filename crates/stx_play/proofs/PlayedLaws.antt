@@ -73,7 +73,7 @@ module _ (S : Scenario) (pool : Pool) (store : Store) (views : List ClientView) 
 
   -- the histories are within what the weight allows
   pub within : IsPlayable S → count_entries (turns_of pool store) ≤ most_calls S
-  within playable = entries_within S playable.built pool.entries store.entries going.cores.pool_legal going.cores.store_legal going.reads
+  within playable = entries_within S playable.order.range playable.order.acyclic pool.entries store.entries going.cores.pool_legal going.cores.store_legal going.reads
 
   -- what a client wants, its script wants
   pub want_at : (c : ℕ) (client : ClientView) (w : Want) → c < length S.clients → client ≡ get_or views c client → (client.failed ≡ false → stop_of (script_of client) ≡ Some w)
