@@ -8,75 +8,88 @@ use Rattle.stx_base.specs.declared.history.PoolNote.{PoolNote}
 use Rattle.stx_base.specs.declared.history.PoolEntry.{PoolEntry}
 use Rattle.stx_base.specs.declared.history.StoreNote.{StoreNote}
 use Rattle.stx_base.specs.declared.history.StoreEntry.{StoreEntry}
+use Rattle.stx_base.specs.Limits.{most_notes}
 use Rattle.stx_base.specs.Histories.{store_notes, pool_notes_of, store_notes_of, has_room}
 use Rattle.stx_base.specs.Pools.{taken_or_empty, pool_reply, pool_want, pool_proper}
 use Rattle.stx_base.specs.Stores.{begun, journal, access_answer, auto_answer, store_reply, store_want, store_proper}
-use Rattle.stx_base.specs.Legal.{PoolFits, PoolLegalFrom, PoolLegal, StoreFits, StoreLegalFrom, StoreLegal}
-use Rattle.stx_base.proofs.HistoryLaws.{sum_below-le, length-made, pool_notes_of-push, pool_notes_of-push_other, store_notes_of-push, store_notes_of-push_other}
+use Rattle.stx_base.specs.Legal.{LegalFrom, PoolFits, PoolLegal, StoreFits, StoreLegal}
+use Rattle.stx_base.proofs.HistoryLaws.{made, made-push, made-push_other, sum_below-le, length-made}
+
+-- ---- of any entries
+
+module _ {E : Type 0} (Fits : List E → E → Type 0) where
+  push_from : (before H : List E) (e : E) → LegalFrom Fits before H → Fits (before ++ H) e → LegalFrom Fits before (H ++ e ∷ [])
+  push_from before [] e legal fits = (subst (λ b. Fits b e) (append-nil before) fits, tt)
+  push_from before (x ∷ H) e legal fits = (legal.0, push_from (before ++ x ∷ []) H e legal.1 (subst (λ b. Fits b e) (sym (append_assoc before (x ∷ []) H)) fits))
+
+  -- a property of histories that holds of the empty one, and of each legal one longer by an entry that fits, holds of each legal one
+  along_from : (P : List E → Type 0) → ((H : List E) (e : E) → P H → Fits H e → P (H ++ e ∷ [])) → (before H : List E) → P before → LegalFrom Fits before H → P (before ++ H)
+  along_from P more before [] p legal = subst P (sym (append-nil before)) p
+  along_from P more before (x ∷ H) p legal = subst P (append_assoc before (x ∷ []) H) (along_from P more (before ++ x ∷ []) H (more before x p legal.0) legal.1)
+
+  -- a legal history of two parts: the first is legal, and the second after it
+  parts_from : (before H G : List E) → LegalFrom Fits before (H ++ G) → LegalFrom Fits before H × LegalFrom Fits (before ++ H) G
+  parts_from before [] G legal = (tt, subst (λ b. LegalFrom Fits b G) (sym (append-nil before)) legal)
+  parts_from before (x ∷ H) G legal =
+      let parts = parts_from (before ++ x ∷ []) H G legal.1 in
+      ((legal.0, parts.0), subst (λ b. LegalFrom Fits b G) (append_assoc before (x ∷ []) H) parts.1)
+
+  -- where each entry that fits passes, all pass
+  all_legal : (P : E → Type 0) → ((before : List E) (e : E) → Fits before e → P e) → (H : List E) → LegalFrom Fits [] H → All P H
+  all_legal P passes H legal = along_from (All P) (λ K e all fits. All-push P K e all (passes K e fits)) [] H (All-nil P) legal
+
+  -- where each entry that passes fits otherwise too, a legal history whose entries pass is legal otherwise too
+  other_from : (P : E → Type 0) (Other : List E → E → Type 0) → ((before : List E) (e : E) → Fits before e → P e → Other before e)
+      → (before H : List E) → LegalFrom Fits before H → All P H → LegalFrom Other before H
+  other_from P Other passes before [] legal all = tt
+  other_from P Other passes before (x ∷ H) legal all =
+      (passes before x legal.0 (All-head P x H all), other_from P Other passes (before ++ x ∷ []) H legal.1 (All-tail P x H all))
+
+  -- where an entry fits only while its client has room, each client keeps few enough notes, and the whole history isn't long
+  module _ {N : Type 0} (client : E → ℕ) (note : E → N) (room : (before : List E) (e : E) → Fits before e → length (made client note before (client e)) < most_notes) where
+    own_step : (K : List E) (e : E) → ((c : ℕ) → length (made client note K c) ≤ most_notes) → Fits K e → (c : ℕ) → length (made client note (K ++ e ∷ []) c) ≤ most_notes
+    own_step K e few fits c = elim (cases_eq (client e) c) [
+      | inl same ↦
+          let less : length (made client note K c) < most_notes = subst (λ d. length (made client note K d) < most_notes) same (room K e fits) in
+          let grown : length (made client note (K ++ e ∷ []) c) ≡ length (made client note K c) + 1 = ap length (made-push client note K e c same) ∙ length-append (made client note K c) (note e ∷ []) in
+          omega arith
+      | inr differs ↦ let kept : length (made client note (K ++ e ∷ []) c) ≡ length (made client note K c) = ap length (made-push_other client note K e c differs) in let before = few c in omega arith
+    ]
+
+    own_few : (H : List E) → LegalFrom Fits [] H → (c : ℕ) → length (made client note H c) ≤ most_notes
+    own_few H legal = along_from (λ K. (c : ℕ) → length (made client note K c) ≤ most_notes) own_step [] H (λ c. omega arith) legal
+
+    short : (n : ℕ) (H : List E) → LegalFrom Fits [] H → All (λ e. client e < n) H → length H ≤ n * most_notes
+    short n H legal all =
+        let sum = length-made client note n H all in
+        let most = sum_below-le n most_notes (λ c. length (made client note H c)) (λ c h. own_few H legal c) in
+        omega arith
 
 -- ---- growing
 
-PoolLegalFrom-push : (n size : ℕ) (before H : List PoolEntry) (e : PoolEntry) → PoolLegalFrom n size before H → PoolFits n size (before ++ H) e → PoolLegalFrom n size before (H ++ e ∷ [])
-PoolLegalFrom-push n size before [] e legal fits = (subst (λ b. PoolFits n size b e) (append-nil before) fits, tt)
-PoolLegalFrom-push n size before (x ∷ H) e legal fits =
-    (legal.0, PoolLegalFrom-push n size (before ++ x ∷ []) H e legal.1 (subst (λ b. PoolFits n size b e) (sym (append_assoc before (x ∷ []) H)) fits))
-
 pub PoolLegal-push : (n size : ℕ) (H : List PoolEntry) (e : PoolEntry) → PoolLegal n size H → PoolFits n size H e → PoolLegal n size (H ++ e ∷ [])
-PoolLegal-push n size H e legal fits = PoolLegalFrom-push n size [] H e legal fits
-
-StoreLegalFrom-push : (n : ℕ) (facts : StoreFacts) (before H : List StoreEntry) (e : StoreEntry) → StoreLegalFrom n facts before H → StoreFits n facts (before ++ H) e → StoreLegalFrom n facts before (H ++ e ∷ [])
-StoreLegalFrom-push n facts before [] e legal fits = (subst (λ b. StoreFits n facts b e) (append-nil before) fits, tt)
-StoreLegalFrom-push n facts before (x ∷ H) e legal fits =
-    (legal.0, StoreLegalFrom-push n facts (before ++ x ∷ []) H e legal.1 (subst (λ b. StoreFits n facts b e) (sym (append_assoc before (x ∷ []) H)) fits))
+PoolLegal-push n size H e legal fits = push_from (PoolFits n size) [] H e legal fits
 
 pub StoreLegal-push : (n : ℕ) (facts : StoreFacts) (H : List StoreEntry) (e : StoreEntry) → StoreLegal n facts H → StoreFits n facts H e → StoreLegal n facts (H ++ e ∷ [])
-StoreLegal-push n facts H e legal fits = StoreLegalFrom-push n facts [] H e legal fits
-
--- a property of histories that holds of the empty one, and of each legal one longer by an entry that fits, holds of each legal one
-StoreLegalFrom-along : (n : ℕ) (facts : StoreFacts) (P : List StoreEntry → Type 0)
-    → ((H : List StoreEntry) (e : StoreEntry) → P H → StoreFits n facts H e → P (H ++ e ∷ []))
-    → (before H : List StoreEntry) → P before → StoreLegalFrom n facts before H → P (before ++ H)
-StoreLegalFrom-along n facts P more before [] p legal = subst P (sym (append-nil before)) p
-StoreLegalFrom-along n facts P more before (x ∷ H) p legal =
-    subst P (append_assoc before (x ∷ []) H) (StoreLegalFrom-along n facts P more (before ++ x ∷ []) H (more before x p legal.0) legal.1)
-
-pub StoreLegal-along : (n : ℕ) (facts : StoreFacts) (P : List StoreEntry → Type 0)
-    → P []
-    → ((H : List StoreEntry) (e : StoreEntry) → P H → StoreFits n facts H e → P (H ++ e ∷ []))
-    → (H : List StoreEntry) → StoreLegal n facts H → P H
-StoreLegal-along n facts P none more H legal = StoreLegalFrom-along n facts P more [] H none legal
-
-PoolLegalFrom-along : (n size : ℕ) (P : List PoolEntry → Type 0)
-    → ((H : List PoolEntry) (e : PoolEntry) → P H → PoolFits n size H e → P (H ++ e ∷ []))
-    → (before H : List PoolEntry) → P before → PoolLegalFrom n size before H → P (before ++ H)
-PoolLegalFrom-along n size P more before [] p legal = subst P (sym (append-nil before)) p
-PoolLegalFrom-along n size P more before (x ∷ H) p legal =
-    subst P (append_assoc before (x ∷ []) H) (PoolLegalFrom-along n size P more (before ++ x ∷ []) H (more before x p legal.0) legal.1)
+StoreLegal-push n facts H e legal fits = push_from (StoreFits n facts) [] H e legal fits
 
 pub PoolLegal-along : (n size : ℕ) (P : List PoolEntry → Type 0)
     → P []
     → ((H : List PoolEntry) (e : PoolEntry) → P H → PoolFits n size H e → P (H ++ e ∷ []))
     → (H : List PoolEntry) → PoolLegal n size H → P H
-PoolLegal-along n size P none more H legal = PoolLegalFrom-along n size P more [] H none legal
+PoolLegal-along n size P none more H legal = along_from (PoolFits n size) P more [] H none legal
 
--- a legal history of two parts: the first is legal, and the second after it
-StoreLegalFrom-parts : (n : ℕ) (facts : StoreFacts) (before H G : List StoreEntry) → StoreLegalFrom n facts before (H ++ G) → StoreLegalFrom n facts before H × StoreLegalFrom n facts (before ++ H) G
-StoreLegalFrom-parts n facts before [] G legal = (tt, subst (λ b. StoreLegalFrom n facts b G) (sym (append-nil before)) legal)
-StoreLegalFrom-parts n facts before (x ∷ H) G legal =
-    let parts = StoreLegalFrom-parts n facts (before ++ x ∷ []) H G legal.1 in
-    ((legal.0, parts.0), subst (λ b. StoreLegalFrom n facts b G) (append_assoc before (x ∷ []) H) parts.1)
+pub StoreLegal-along : (n : ℕ) (facts : StoreFacts) (P : List StoreEntry → Type 0)
+    → P []
+    → ((H : List StoreEntry) (e : StoreEntry) → P H → StoreFits n facts H e → P (H ++ e ∷ []))
+    → (H : List StoreEntry) → StoreLegal n facts H → P H
+StoreLegal-along n facts P none more H legal = along_from (StoreFits n facts) P more [] H none legal
 
-pub StoreLegal-parts : (n : ℕ) (facts : StoreFacts) (H G : List StoreEntry) → StoreLegal n facts (H ++ G) → StoreLegal n facts H × StoreLegalFrom n facts H G
-StoreLegal-parts n facts H G legal = StoreLegalFrom-parts n facts [] H G legal
+pub PoolLegal-parts : (n size : ℕ) (H G : List PoolEntry) → PoolLegal n size (H ++ G) → PoolLegal n size H × LegalFrom (PoolFits n size) H G
+PoolLegal-parts n size H G legal = parts_from (PoolFits n size) [] H G legal
 
-PoolLegalFrom-parts : (n size : ℕ) (before H G : List PoolEntry) → PoolLegalFrom n size before (H ++ G) → PoolLegalFrom n size before H × PoolLegalFrom n size (before ++ H) G
-PoolLegalFrom-parts n size before [] G legal = (tt, subst (λ b. PoolLegalFrom n size b G) (sym (append-nil before)) legal)
-PoolLegalFrom-parts n size before (x ∷ H) G legal =
-    let parts = PoolLegalFrom-parts n size (before ++ x ∷ []) H G legal.1 in
-    ((legal.0, parts.0), subst (λ b. PoolLegalFrom n size b G) (append_assoc before (x ∷ []) H) parts.1)
-
-pub PoolLegal-parts : (n size : ℕ) (H G : List PoolEntry) → PoolLegal n size (H ++ G) → PoolLegal n size H × PoolLegalFrom n size H G
-PoolLegal-parts n size H G legal = PoolLegalFrom-parts n size [] H G legal
+pub StoreLegal-parts : (n : ℕ) (facts : StoreFacts) (H G : List StoreEntry) → StoreLegal n facts (H ++ G) → StoreLegal n facts H × LegalFrom (StoreFits n facts) H G
+StoreLegal-parts n facts H G legal = parts_from (StoreFits n facts) [] H G legal
 
 -- ---- replies
 
@@ -138,60 +151,26 @@ PoolFits-reply n size H c want note below proper reply =
 
 -- ---- clients
 
-pub StoreLegal-clients : (n : ℕ) (facts : StoreFacts) (H : List StoreEntry) → StoreLegal n facts H → All (λ e. e.client < n) H
-StoreLegal-clients n facts H legal =
-    StoreLegal-along n facts (All (λ e. e.client < n)) (All-nil (λ e. e.client < n)) (λ K e all fits. All-push (λ x. x.client < n) K e all fits.client) H legal
-
 pub PoolLegal-clients : (n size : ℕ) (H : List PoolEntry) → PoolLegal n size H → All (λ e. e.client < n) H
-PoolLegal-clients n size H legal =
-    PoolLegal-along n size (All (λ e. e.client < n)) (All-nil (λ e. e.client < n)) (λ K e all fits. All-push (λ x. x.client < n) K e all fits.client) H legal
+PoolLegal-clients n size H legal = all_legal (PoolFits n size) (λ e. e.client < n) (λ before e fits. fits.client) H legal
 
-StoreLegalFrom-among : (m n : ℕ) (facts : StoreFacts) (before H : List StoreEntry) → StoreLegalFrom m facts before H → All (λ e. e.client < n) H → StoreLegalFrom n facts before H
-StoreLegalFrom-among m n facts before [] legal all = tt
-StoreLegalFrom-among m n facts before (x ∷ H) legal all = (
-  record { client = All-head (λ e. e.client < n) x H all; proper = legal.0.proper; reply = legal.0.reply },
-  StoreLegalFrom-among m n facts (before ++ x ∷ []) H legal.1 (All-tail (λ e. e.client < n) x H all),
-)
+pub StoreLegal-clients : (n : ℕ) (facts : StoreFacts) (H : List StoreEntry) → StoreLegal n facts H → All (λ e. e.client < n) H
+StoreLegal-clients n facts H legal = all_legal (StoreFits n facts) (λ e. e.client < n) (λ before e fits. fits.client) H legal
 
 -- a legal history, where all clients are below a count, is one of so many clients
-pub StoreLegal-among : (m n : ℕ) (facts : StoreFacts) (H : List StoreEntry) → StoreLegal m facts H → All (λ e. e.client < n) H → StoreLegal n facts H
-StoreLegal-among m n facts H legal all = StoreLegalFrom-among m n facts [] H legal all
-
-PoolLegalFrom-among : (m n size : ℕ) (before H : List PoolEntry) → PoolLegalFrom m size before H → All (λ e. e.client < n) H → PoolLegalFrom n size before H
-PoolLegalFrom-among m n size before [] legal all = tt
-PoolLegalFrom-among m n size before (x ∷ H) legal all = (
-  record { client = All-head (λ e. e.client < n) x H all; proper = legal.0.proper; reply = legal.0.reply },
-  PoolLegalFrom-among m n size (before ++ x ∷ []) H legal.1 (All-tail (λ e. e.client < n) x H all),
-)
-
 pub PoolLegal-among : (m n size : ℕ) (H : List PoolEntry) → PoolLegal m size H → All (λ e. e.client < n) H → PoolLegal n size H
-PoolLegal-among m n size H legal all = PoolLegalFrom-among m n size [] H legal all
+PoolLegal-among m n size H legal all =
+    other_from (PoolFits m size) (λ e. e.client < n) (PoolFits n size) (λ before e fits below. record { client = below; proper = fits.proper; reply = fits.reply }) [] H legal all
+
+pub StoreLegal-among : (m n : ℕ) (facts : StoreFacts) (H : List StoreEntry) → StoreLegal m facts H → All (λ e. e.client < n) H → StoreLegal n facts H
+StoreLegal-among m n facts H legal all =
+    other_from (StoreFits m facts) (λ e. e.client < n) (StoreFits n facts) (λ before e fits below. record { client = below; proper = fits.proper; reply = fits.reply }) [] H legal all
 
 -- ---- how long they get
 
 store_room : (own : List StoreNote) (want : Want) → IsTrue (store_proper own want) → length own < 2 ^ 32
 unfolding store_proper
 store_room own want proper = ltb-true (length own) (2 ^ 32) (and_parts (has_room own) _ proper).0
-
--- each client keeps few enough notes
-pub StoreLegal-own : (n : ℕ) (facts : StoreFacts) (H : List StoreEntry) → StoreLegal n facts H → (c : ℕ) → length (store_notes_of H c) ≤ 2 ^ 32
-StoreLegal-own n facts H legal = StoreLegal-along n facts (λ K. (c : ℕ) → length (store_notes_of K c) ≤ 2 ^ 32) (λ c. omega arith) step H legal
-  where
-    step : (K : List StoreEntry) (e : StoreEntry) → ((c : ℕ) → length (store_notes_of K c) ≤ 2 ^ 32) → StoreFits n facts K e → (c : ℕ) → length (store_notes_of (K ++ e ∷ []) c) ≤ 2 ^ 32
-    step K e few fits c = elim (cases_eq e.client c) [
-      | inl same ↦
-          let room : length (store_notes_of K c) < 2 ^ 32 = subst (λ d. length (store_notes_of K d) < 2 ^ 32) same (store_room (store_notes_of K e.client) (store_want e.note) fits.proper) in
-          let grown : length (store_notes_of (K ++ e ∷ []) c) ≡ length (store_notes_of K c) + 1 = ap length (store_notes_of-push K e c same) ∙ length-append (store_notes_of K c) (e.note ∷ []) in
-          omega arith
-      | inr differs ↦ let kept : length (store_notes_of (K ++ e ∷ []) c) ≡ length (store_notes_of K c) = ap length (store_notes_of-push_other K e c differs) in let before = few c in omega arith
-    ]
-
--- so the whole history isn't long
-pub StoreLegal-short : (n : ℕ) (facts : StoreFacts) (H : List StoreEntry) → StoreLegal n facts H → length H ≤ n * 2 ^ 32
-StoreLegal-short n facts H legal =
-    let sum = length-made (λ e. e.client) (λ e. e.note) n H (StoreLegal-clients n facts H legal) in
-    let least = sum_below-le n (2 ^ 32) (λ c. length (store_notes_of H c)) (λ c h. StoreLegal-own n facts H legal c) in
-    omega arith
 
 pool_room : (own : List PoolNote) (want : Want) → IsTrue (pool_proper own want) → length own < 2 ^ 32
 unfolding pool_proper
@@ -208,20 +187,20 @@ pool_room own (Want.Auto a) proper = cc
 pool_room own Want.Done proper = cc
 pool_room own Want.Failed proper = cc
 
-pub PoolLegal-own : (n size : ℕ) (H : List PoolEntry) → PoolLegal n size H → (c : ℕ) → length (pool_notes_of H c) ≤ 2 ^ 32
-PoolLegal-own n size H legal = PoolLegal-along n size (λ K. (c : ℕ) → length (pool_notes_of K c) ≤ 2 ^ 32) (λ c. omega arith) step H legal
-  where
-    step : (K : List PoolEntry) (e : PoolEntry) → ((c : ℕ) → length (pool_notes_of K c) ≤ 2 ^ 32) → PoolFits n size K e → (c : ℕ) → length (pool_notes_of (K ++ e ∷ []) c) ≤ 2 ^ 32
-    step K e few fits c = elim (cases_eq e.client c) [
-      | inl same ↦
-          let room : length (pool_notes_of K c) < 2 ^ 32 = subst (λ d. length (pool_notes_of K d) < 2 ^ 32) same (pool_room (pool_notes_of K e.client) (pool_want e.note) fits.proper) in
-          let grown : length (pool_notes_of (K ++ e ∷ []) c) ≡ length (pool_notes_of K c) + 1 = ap length (pool_notes_of-push K e c same) ∙ length-append (pool_notes_of K c) (e.note ∷ []) in
-          omega arith
-      | inr differs ↦ let kept : length (pool_notes_of (K ++ e ∷ []) c) ≡ length (pool_notes_of K c) = ap length (pool_notes_of-push_other K e c differs) in let before = few c in omega arith
-    ]
+-- each client keeps few enough notes
+pub PoolLegal-own : (n size : ℕ) (H : List PoolEntry) → PoolLegal n size H → (c : ℕ) → length (pool_notes_of H c) ≤ most_notes
+PoolLegal-own n size H legal =
+    own_few (PoolFits n size) (λ e. e.client) (λ e. e.note) (λ before e fits. pool_room (pool_notes_of before e.client) (pool_want e.note) fits.proper) H legal
 
-pub PoolLegal-short : (n size : ℕ) (H : List PoolEntry) → PoolLegal n size H → length H ≤ n * 2 ^ 32
+pub StoreLegal-own : (n : ℕ) (facts : StoreFacts) (H : List StoreEntry) → StoreLegal n facts H → (c : ℕ) → length (store_notes_of H c) ≤ most_notes
+StoreLegal-own n facts H legal =
+    own_few (StoreFits n facts) (λ e. e.client) (λ e. e.note) (λ before e fits. store_room (store_notes_of before e.client) (store_want e.note) fits.proper) H legal
+
+-- so the whole history isn't long
+pub PoolLegal-short : (n size : ℕ) (H : List PoolEntry) → PoolLegal n size H → length H ≤ n * most_notes
 PoolLegal-short n size H legal =
-    let sum = length-made (λ e. e.client) (λ e. e.note) n H (PoolLegal-clients n size H legal) in
-    let least = sum_below-le n (2 ^ 32) (λ c. length (pool_notes_of H c)) (λ c h. PoolLegal-own n size H legal c) in
-    omega arith
+    short (PoolFits n size) (λ e. e.client) (λ e. e.note) (λ before e fits. pool_room (pool_notes_of before e.client) (pool_want e.note) fits.proper) n H legal (PoolLegal-clients n size H legal)
+
+pub StoreLegal-short : (n : ℕ) (facts : StoreFacts) (H : List StoreEntry) → StoreLegal n facts H → length H ≤ n * most_notes
+StoreLegal-short n facts H legal =
+    short (StoreFits n facts) (λ e. e.client) (λ e. e.note) (λ before e fits. store_room (store_notes_of before e.client) (store_want e.note) fits.proper) n H legal (StoreLegal-clients n facts H legal)

@@ -7,19 +7,20 @@ use Rattle.stx_base.specs.Histories.{pool_notes_of, store_notes_of}
 use Rattle.stx_base.specs.Pools.{pool_reply, pool_want, pool_proper}
 use Rattle.stx_base.specs.Stores.{store_reply, store_want, store_proper}
 
+-- each entry fits after those before it
+abbrev pub LegalFrom : {E : Type 0} → (List E → E → Type 0) → List E → List E → Type 0
+LegalFrom Fits before [] = ⊤
+LegalFrom Fits before (e ∷ es) = Fits before e × LegalFrom Fits (before ++ e ∷ []) es
+
 -- an entry of the pool fits after those before it
 pub record PoolFits (clients size : ℕ) (before : List PoolEntry) (entry : PoolEntry) : Type 0 where
   pub client : entry.client < clients
   pub proper : IsTrue (pool_proper (pool_notes_of before entry.client) (pool_want entry.note))
   pub reply : pool_reply size before (pool_want entry.note) ≡ Some entry.note
 
-abbrev pub PoolLegalFrom : ℕ → ℕ → List PoolEntry → List PoolEntry → Type 0
-PoolLegalFrom clients size before [] = ⊤
-PoolLegalFrom clients size before (e ∷ es) = PoolFits clients size before e × PoolLegalFrom clients size (before ++ e ∷ []) es
-
 -- a history of a pool of this size, of clients below a count
 abbrev pub PoolLegal : ℕ → ℕ → List PoolEntry → Type 0
-PoolLegal clients size history = PoolLegalFrom clients size [] history
+PoolLegal clients size history = LegalFrom (PoolFits clients size) [] history
 
 -- an entry of the store fits after those before it
 pub record StoreFits (clients : ℕ) (facts : StoreFacts) (before : List StoreEntry) (entry : StoreEntry) : Type 0 where
@@ -27,10 +28,6 @@ pub record StoreFits (clients : ℕ) (facts : StoreFacts) (before : List StoreEn
   pub proper : IsTrue (store_proper (store_notes_of before entry.client) (store_want entry.note))
   pub reply : store_reply facts before (store_want entry.note) ≡ Some entry.note
 
-abbrev pub StoreLegalFrom : ℕ → StoreFacts → List StoreEntry → List StoreEntry → Type 0
-StoreLegalFrom clients facts before [] = ⊤
-StoreLegalFrom clients facts before (e ∷ es) = StoreFits clients facts before e × StoreLegalFrom clients facts (before ++ e ∷ []) es
-
 -- a history of a store that is made with these, of clients below a count
 abbrev pub StoreLegal : ℕ → StoreFacts → List StoreEntry → Type 0
-StoreLegal clients facts history = StoreLegalFrom clients facts [] history
+StoreLegal clients facts history = LegalFrom (StoreFits clients facts) [] history

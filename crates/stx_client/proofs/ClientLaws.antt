@@ -21,12 +21,12 @@ use Rattle.stx_model.proofs.FlatGrowth.{Grows, finally_grows, and_then_grows, ac
 use Rattle.stx_client.specs.declared.stage.Then.{Then}
 use Rattle.stx_client.specs.declared.stage.Stage.{Stage}
 use Rattle.stx_client.specs.declared.stage.At.{At}
-use Rattle.stx_client.specs.Machine.{state, attribute_of, context_of, local_of, want_of, does, ending, means, run, Hears}
-use Rattle.stx_client.specs.Holding.{has_failed}
+use Rattle.stx_client.specs.inner.Machine.{state, attribute_of, context_of, local_of, want_of, does, ending, means, run, Hears}
+use Rattle.stx_client.specs.inner.Holding.{has_failed}
 use Rattle.stx_base.specs.declared.history.Note.{Note}
 use Rattle.stx_base.specs.Notes.{is_reply, note_line, note_of}
 use Rattle.stx_client.specs.View.{ClientView, script_of, pool_with, store_with, has_told, with_note, fed}
-use Rattle.stx_client.specs.Keeps.{Keeps}
+use Rattle.stx_client.specs.inner.Keeps.{Keeps}
 
 -- ---- growth
 

@@ -1,7 +1,7 @@
 -- What is held at a stage.
 use Rattle.std.proofs.Common.{◌≡◌, Bool, true, false, None, refl}
 use Rattle.stx_client.specs.declared.stage.Stage.{Stage}
-use Rattle.stx_client.specs.Holding.{has_failed, holds_connection, holds_session, IsBetween}
+use Rattle.stx_client.specs.inner.Holding.{has_failed, holds_connection, holds_session, IsBetween}
 
 pub between_ok : (stage : Stage) → IsBetween stage → has_failed stage ≡ false
 between_ok (Stage.Opening m) is = refl

@@ -29,7 +29,7 @@ use Rattle.stx_model.proofs.FlatForm.{statement_in, body, fresh, intercepted, in
 use Rattle.stx_client.specs.declared.stage.Scope.{Scope}
 use Rattle.stx_client.specs.declared.stage.Then.{Then}
 use Rattle.stx_client.specs.declared.stage.Stage.{Stage}
-use Rattle.stx_client.specs.Machine.{outside, inside, default_attribute, attribute_of, call_line, access_in, does, ending, ends_with, goes_on, means, tops_from, later_calls}
+use Rattle.stx_client.specs.inner.Machine.{outside, inside, default_attribute, attribute_of, call_line, access_in, does, ending, ends_with, goes_on, means, tops_from, later_calls}
 
 -- ---- lists by place
 

@@ -12,7 +12,7 @@ use Rattle.stx_model.specs.Statements.{is_value, value_of, unless_busy, throws, 
 use Rattle.stx_scenario.specs.declared.scenario.Scenario.{Scenario}
 use Rattle.stx_client.specs.declared.stage.Scope.{Scope}
 use Rattle.stx_client.specs.declared.stage.Then.{Then}
-use Rattle.stx_client.specs.Machine.{sum_of, hears, rest_of_body}
+use Rattle.stx_client.specs.inner.Machine.{sum_of, hears, rest_of_body}
 
 value_fits : (z : ℤ) → FitsSigned w64 z → is_value z ≡ true
 value_fits (pos n) fits = lt-ltb n (2 ^ 63) fits.sfits

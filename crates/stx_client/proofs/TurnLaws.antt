@@ -23,7 +23,7 @@ use Rattle.stx_client.specs.declared.stage.Scope.{Scope}
 use Rattle.stx_client.specs.declared.stage.Then.{Then}
 use Rattle.stx_client.specs.declared.stage.Stage.{Stage}
 use Rattle.stx_client.specs.declared.stage.At.{At}
-use Rattle.stx_client.specs.Machine.{state, outside, inside, attribute_of, scope_context, context_of, local_of, want_of, does, means, hears, rest_of_body, later_calls, run, IsIn, Comes, Runs, Opens}
+use Rattle.stx_client.specs.inner.Machine.{state, outside, inside, attribute_of, scope_context, context_of, local_of, want_of, does, means, hears, rest_of_body, later_calls, run, IsIn, Comes, Runs, Opens}
 
 -- ---- asking
 

@@ -1,4 +1,2 @@
-pub mod Machine
-pub mod Holding
 pub mod View
-pub mod Keeps
+pub mod inner

@@ -7,7 +7,7 @@ ghost use Rattle.stx_client.specs.declared.stage.Then.{Then as ThenData};
 ghost use Rattle.stx_model.specs.Built.{is_built};
 ghost use Rattle.stx_model.specs.Playable.{IsPlayable};
 ghost use Rattle.stx_model.specs.Statements.{value_of as value_in};
-ghost use Rattle.stx_client.specs.Machine.{Comes, IsIn, IsMethod, access_in, goes_on, hears, sum_of};
+ghost use Rattle.stx_client.specs.inner.Machine.{Comes, IsIn, IsMethod, access_in, goes_on, hears, sum_of};
 
 use crate::ending::{ended, thrown};
 use crate::setup::Setup;

@@ -3,8 +3,8 @@ ghost use Rattle.std.specs.Prelude.{◌≡◌, ◌≤◌, ◌<◌, length};
 ghost use Rattle.stx_base.specs.Limits.{most_calls};
 ghost use Rattle.stx_model.specs.Playable.{IsPlayable};
 ghost use Rattle.stx_model.specs.Scopes.{leaves};
-ghost use Rattle.stx_client.specs.Holding.{IsBetween};
-ghost use Rattle.stx_client.specs.Machine.{Runs, IsMethod, IsSound, attribute_of as attribute_in, call_line, later_calls, tops_from};
+ghost use Rattle.stx_client.specs.inner.Holding.{IsBetween};
+ghost use Rattle.stx_client.specs.inner.Machine.{Runs, IsMethod, IsSound, attribute_of as attribute_in, call_line, later_calls, tops_from};
 
 use crate::setup::Setup;
 use crate::stage::{At, Stage};

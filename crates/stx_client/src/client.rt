@@ -39,10 +39,10 @@ pub struct Client<'a> {
 
 impl<'a> Model for Client<'a> {
     ghost use Rattle.std.specs.Prelude.{Some, None, if◌then◌else◌};
-    ghost use Rattle.stx_client.specs.Machine.{want_of};
-    ghost use Rattle.stx_client.specs.Holding.{has_failed};
+    ghost use Rattle.stx_client.specs.inner.Machine.{want_of};
+    ghost use Rattle.stx_client.specs.inner.Holding.{has_failed};
     ghost use Rattle.stx_client.specs.View.{ClientView};
-    ghost use Rattle.stx_client.specs.Keeps.{Keeps, Holds};
+    ghost use Rattle.stx_client.specs.inner.Keeps.{Keeps, Holds};
 
     ghost Value = { ClientView };
 

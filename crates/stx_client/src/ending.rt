@@ -4,7 +4,7 @@ ghost use Rattle.stx_model.specs.Meanings.{say};
 ghost use Rattle.stx_base.specs.Rules.{winner as winner_of, rolls_back};
 ghost use Rattle.stx_model.specs.Statements.{throws};
 ghost use Rattle.stx_model.specs.Playable.{IsPlayable};
-ghost use Rattle.stx_client.specs.Machine.{Comes, IsIn, IsMethod, attribute_of as attribute_in, ending, ends_with, IsClass};
+ghost use Rattle.stx_client.specs.inner.Machine.{Comes, IsIn, IsMethod, attribute_of as attribute_in, ending, ends_with, IsClass};
 
 use crate::calls::attribute_of;
 use crate::setup::Setup;

@@ -3,8 +3,8 @@ ghost use Rattle.std.specs.Prelude.{◌≡◌, ◌<◌, ◌≤◌, [], Some, IfO
 ghost use Rattle.stx_base.specs.declared.call.Reply.{Reply as ReplyData};
 ghost use Rattle.stx_base.specs.declared.history.Note.{Note as NoteData};
 ghost use Rattle.stx_base.specs.Notes.{is_reply_to, note_line, note_of as note_in, pool_note as pool_note_in, store_note as store_note_in, pool_line as pool_line_of, store_line as store_line_of};
-ghost use Rattle.stx_client.specs.Machine.{want_of};
-ghost use Rattle.stx_client.specs.Holding.{tokens_after};
+ghost use Rattle.stx_client.specs.inner.Machine.{want_of};
+ghost use Rattle.stx_client.specs.inner.Holding.{tokens_after};
 ghost use Rattle.stx_client.specs.View.{pool_with, store_with};
 
 use crate::stage::Stage;

@@ -1,6 +1,6 @@
 // Where a client stands between two shared calls.
 ghost use Rattle.std.specs.Prelude.{◌≡◌};
-ghost use Rattle.stx_client.specs.Machine.{want_of as want_at};
+ghost use Rattle.stx_client.specs.inner.Machine.{want_of as want_at};
 
 use stx_base::{Access, Ending, Want};
 use stx_scenario::{ClassNo, MethodNo, RowNo};

@@ -4,8 +4,8 @@ ghost use Rattle.stx_base.specs.declared.history.Note.{Note as NoteData};
 ghost use Rattle.stx_base.specs.Notes.{is_answer, pool_answers, store_answers};
 ghost use Rattle.stx_model.specs.Playable.{IsPlayable};
 ghost use Rattle.stx_model.specs.Opening.{owns_fresh as owns_in};
-ghost use Rattle.stx_client.specs.Holding.{Passes};
-ghost use Rattle.stx_client.specs.Machine.{IsSound, IsMethod, IsIn, Hears, HearsPool, HearsStore, Opens, want_of};
+ghost use Rattle.stx_client.specs.inner.Holding.{Passes};
+ghost use Rattle.stx_client.specs.inner.Machine.{IsSound, IsMethod, IsIn, Hears, HearsPool, HearsStore, Opens, want_of};
 
 use crate::body::{answered, goes_to};
 use crate::calls::leave;

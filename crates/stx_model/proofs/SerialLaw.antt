@@ -11,7 +11,7 @@ use Rattle.stx_base.specs.declared.history.StoreEntry.{StoreEntry}
 use Rattle.stx_base.specs.Alone.{first_rows, row_of, at_start, stepped, finds, finding, found_alone, answer_of}
 use Rattle.stx_base.specs.Histories.{store_notes}
 use Rattle.stx_base.specs.Stores.{is_live, is_busy, conflicts, works, work, Transaction, committed_note, journal, after_all, committed_rows, store_reply, store_want}
-use Rattle.stx_base.specs.Legal.{StoreFits, StoreLegalFrom, StoreLegal}
+use Rattle.stx_base.specs.Legal.{LegalFrom, StoreFits, StoreLegal}
 use Rattle.stx_model.specs.Laws.{JournalIsSerial}
 use Rattle.stx_model.proofs.SerialAlone.{FindsAnswers, reaches, writes, unmoved, alone_push}
 use Rattle.stx_model.proofs.SerialNames.{begins, Names, NamesFit, Sound, names_fit, names_push, notes_with, notes_push, no_names, sound}
@@ -167,7 +167,7 @@ good_push clients facts history e good fits = record {
     joins = entry_joins facts history e.client e.note good known fits.reply
 
 good_from :
-    (clients : ℕ) (facts : StoreFacts) (before es : List StoreEntry) → Good facts before → StoreLegalFrom clients facts before es
+    (clients : ℕ) (facts : StoreFacts) (before es : List StoreEntry) → Good facts before → LegalFrom (StoreFits clients facts) before es
     → Good facts (before ++ es)
 good_from clients facts before [] good legal = rw (append-nil before) good
 good_from clients facts before (e ∷ es) good legal =

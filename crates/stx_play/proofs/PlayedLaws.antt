@@ -16,7 +16,8 @@ use Rattle.std.proofs.lemmas.Bool.Decides.{eqb_tells}
 use Rattle.stx_model.proofs.EntriesLaw.{entries_within}
 use Rattle.stx_pool.specs.Pool.{Pool}
 use Rattle.stx_store.specs.Store.{Store}
-use Rattle.stx_play.specs.Playing.{turns_of, count_entries, client_so_far, HasRead, IsGoing, IsReady, HasTurned, IsClientDone, AllDone, EachEnded}
+use Rattle.stx_play.specs.Play.{IsClientDone, AllDone}
+use Rattle.stx_play.specs.inner.Turning.{turns_of, count_entries, client_so_far, HasRead, IsGoing, IsReady, HasTurned, EachEnded}
 use Rattle.stx_play.proofs.RangeLaws.{set_range}
 
 module _ (S : Scenario) (pool : Pool) (store : Store) (views : List ClientView) (going : IsGoing S pool store views) where

@@ -12,7 +12,7 @@ use Rattle.stx_model.specs.Script.{script}
 use Rattle.stx_model.specs.Meanings.{stop_of}
 use Rattle.stx_model.specs.Played.{Turns, turn, turns, run_out, replied, with_pool, with_store, script_so_far, want_so_far, most_calls}
 use Rattle.stx_base.proofs.HistoryLaws.{pool_notes_of-push_other, store_notes_of-push_other}
-use Rattle.stx_play.specs.Playing.{IsClientDone}
+use Rattle.stx_play.specs.Play.{IsClientDone}
 use Rattle.stx_play.proofs.RangeLaws.{push_range}
 
 -- ---- a turn of one client is nothing to the others

@@ -27,7 +27,7 @@ use Rattle.stx_model.proofs.FlatProper.{wants_proper}
 use Rattle.stx_client.specs.View.{ClientView, script_of, has_told, with_note, calling, fed, HasReadAll}
 use Rattle.stx_pool.specs.Pool.{Pool, with_pool_entry}
 use Rattle.stx_store.specs.Store.{Store, with_store_entry}
-use Rattle.stx_play.specs.Playing.{turns_of, count_entries, client_so_far, AreCores, IsReady, IsCallProper, IsCallAnswered, HasTurned}
+use Rattle.stx_play.specs.inner.Turning.{turns_of, count_entries, client_so_far, AreCores, IsReady, IsCallProper, IsCallAnswered, HasTurned}
 
 stops_with : (r : ScriptResult) (w : Want) → stop_of r ≡ Some w → r ≡ Stops w (state_of r)
 stops_with (Over x st) w is = cc

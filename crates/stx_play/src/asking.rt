@@ -1,7 +1,7 @@
 // Hands a client's call to the pool or to the store, and the answer back.
 ghost use Rattle.std.specs.Prelude.{◌<◌, IfOk};
 ghost use Rattle.stx_base.specs.Limits.{most_clients};
-ghost use Rattle.stx_play.specs.Playing.{IsCallProper, IsCallAnswered};
+ghost use Rattle.stx_play.specs.inner.Turning.{IsCallProper, IsCallAnswered};
 
 use std::alloc::Global;
 use stx_base::{Call, Reply};

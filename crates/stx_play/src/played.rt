@@ -5,7 +5,8 @@ ghost use Rattle.stx_model.specs.Faithful.{Faithful};
 ghost use Rattle.stx_model.specs.Playable.{IsPlayable};
 ghost use Rattle.stx_model.specs.Played.{run_out, outcome_of};
 ghost use Rattle.stx_client.specs.View.{new_client, lines_of_script};
-ghost use Rattle.stx_play.specs.Playing.{unplayed, with_turn, with_turns, HasOneMore, IsClientDone, AllDone, EachEnded, HaveReadNothing};
+ghost use Rattle.stx_play.specs.Play.{unplayed, with_turn, with_turns, IsClientDone, AllDone};
+ghost use Rattle.stx_play.specs.inner.Turning.{HasOneMore, EachEnded, HaveReadNothing};
 
 use crate::turn::take_turn;
 use std::alloc::Global;
@@ -27,7 +28,8 @@ pub struct Played<'a> {
 }
 
 impl<'a> Model for Played<'a> {
-    ghost use Rattle.stx_play.specs.Playing.{PlayView, KeepsPlay, turns_of};
+    ghost use Rattle.stx_play.specs.Play.{PlayView};
+    ghost use Rattle.stx_play.specs.inner.Turning.{KeepsPlay, turns_of};
 
     ghost Value = { PlayView };
 

@@ -2,7 +2,7 @@
 ghost use Rattle.std.specs.Prelude.{◌≡◌, ◌≢◌, Some, OnOk};
 ghost use Rattle.stx_model.specs.Played.{want_so_far};
 ghost use Rattle.stx_base.specs.declared.call.Want.{Want as WantData};
-ghost use Rattle.stx_play.specs.Playing.{IsReady, HasTurned, turns_of};
+ghost use Rattle.stx_play.specs.inner.Turning.{IsReady, HasTurned, turns_of};
 
 use crate::asking::ask;
 use std::alloc::Global;

@@ -12,7 +12,7 @@ use Rattle.stx_base.specs.Pools.{contains, without, out, first_free, taken_or_em
 use Rattle.stx_base.specs.Legal.{PoolFits, PoolLegal}
 use Rattle.stx_base.proofs.LegalLaws.{PoolLegal-push}
 use Rattle.stx_base.proofs.PoolLaws.{out-push, contains-without_same, contains-without_other, length-without, first_free-at, first_free-all, given_is_own, out_is_owned, length-out, none_free, some_free}
-use Rattle.stx_pool.specs.Pool.{KeepsPool}
+use Rattle.stx_pool.specs.inner.Keeps.{KeepsPool}
 
 -- ---- the first flag that isn't set
 

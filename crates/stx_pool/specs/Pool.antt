@@ -1,15 +1,12 @@
--- What callers see of a pool, what a call leaves of it, and what its fields keep true.
-use Rattle.std.specs.Prelude.{◌≡◌, ℕ, ◌+◌, ◌<◌, ◌≤◌, Bool, false, List, [], ◌∷◌, ◌++◌, length, Some, slice_index_or}
+-- A pool as contracts see it, and what a call that it answers leaves.
+use Rattle.std.specs.Prelude.{◌≡◌, ℕ, List, [], ◌∷◌, ◌++◌, Some}
 use Rattle.stx_base.specs.declared.call.Want.{Want}
 use Rattle.stx_base.specs.declared.call.PoolCall.{PoolCall}
 use Rattle.stx_base.specs.declared.call.PoolAnswer.{PoolAnswer}
 use Rattle.stx_base.specs.declared.history.PoolNote.{PoolNote}
 use Rattle.stx_base.specs.declared.history.PoolEntry.{PoolEntry}
-use Rattle.stx_base.specs.Limits.{most_clients, most_connections}
-use Rattle.stx_base.specs.Histories.{pool_notes}
 use Rattle.stx_base.specs.Notes.{pool_call_want, pool_note}
-use Rattle.stx_base.specs.Pools.{contains, out, pool_reply}
-use Rattle.stx_base.specs.Legal.{PoolLegal}
+use Rattle.stx_base.specs.Pools.{pool_reply}
 
 -- a pool of the connections 1 to `size`, with its history
 pub record Pool : Type 0 where
@@ -34,10 +31,3 @@ pub record PoolCallAnswered (old new : Pool) (client : ℕ) (call : PoolCall) (a
   pub note : PoolNote
   pub made : pool_note (pool_call_want call) answer ≡ Some note
   pub replies : PoolReplies old new client (pool_call_want call) note
-
--- the flags say which connections are out in a legal history, and there is room to give each of these back
-pub record KeepsPool (flags : List Bool) (entries : List PoolEntry) (capacity : ℕ) : Type 0 where
-  pub few : length flags ≤ most_connections
-  pub legal : PoolLegal most_clients (length flags) entries
-  pub tells : (k : ℕ) → k < length flags → slice_index_or flags k false ≡ contains (out (pool_notes entries)) (k + 1)
-  pub room : length entries + length (out (pool_notes entries)) ≤ capacity

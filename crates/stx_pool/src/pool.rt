@@ -21,7 +21,8 @@ pub struct PoolCore {
 
 impl Model for PoolCore {
     ghost use Rattle.std.specs.Prelude.{length, vec_capacity};
-    ghost use Rattle.stx_pool.specs.Pool.{Pool, KeepsPool};
+    ghost use Rattle.stx_pool.specs.Pool.{Pool};
+    ghost use Rattle.stx_pool.specs.inner.Keeps.{KeepsPool};
 
     ghost Value = { Pool };
 

@@ -12,7 +12,7 @@ use Rattle.stx_base.specs.Alone.{innermost, without_innermost}
 use Rattle.stx_base.specs.Stores.{work, works, is_busy, pointed, savepoints, with_return}
 use Rattle.stx_base.proofs.HistoryLaws.{store_notes-push}
 use Rattle.stx_store.specs.declared.rows.Trace.{Trace}
-use Rattle.stx_store.specs.Cells.{Cell, cell_applied, cell_stepped, cell_worked, cell_after, written, value_or_level, back_at_access, back_at_return, back_at_release, back}
+use Rattle.stx_store.specs.inner.Cells.{Cell, cell_applied, cell_stepped, cell_worked, cell_after, written, value_or_level, back_at_access, back_at_return, back_at_release, back}
 
 -- the value and its copies, the innermost first
 abbrev pub stack : Cell → List (Option ℤ)

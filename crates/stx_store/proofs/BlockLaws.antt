@@ -12,7 +12,7 @@ use Rattle.stx_base.specs.Alone.{row_of}
 use Rattle.stx_base.specs.Histories.{store_notes}
 use Rattle.stx_base.specs.Stores.{begun, ends, live, takes, conflicts, is_caller, smallest}
 use Rattle.stx_base.proofs.HistoryLaws.{store_notes-push, begun-push}
-use Rattle.stx_store.specs.Blocks.{blocks, blockers, smaller, found_with}
+use Rattle.stx_store.specs.inner.Blocks.{blocks, blockers, smaller, found_with}
 
 -- a test of the notes, over the entries
 pub any_note : (p : StoreNote → Bool) (H : List StoreEntry) → list_any p (store_notes H) ≡ list_any (λ e. p e.note) H

@@ -13,7 +13,7 @@ use Rattle.stx_base.specs.Alone.{RowMap, Alone, row_of, applied, stepped, at_sta
 use Rattle.stx_base.specs.Histories.{store_notes}
 use Rattle.stx_base.specs.Stores.{work, is_busy, conflicts, smallest, committed_note, after_all, committed_rows, busy_or, access_answer, auto_answer}
 use Rattle.stx_base.proofs.RowLaws.{rows_so_far, rows_so_far-more}
-use Rattle.stx_store.specs.Cells.{Cell, cell_applied, cell_stepped, cell_after, cell_committed, found_at}
+use Rattle.stx_store.specs.inner.Cells.{Cell, cell_applied, cell_stepped, cell_after, cell_committed, found_at}
 
 -- ---- one transaction's work
 

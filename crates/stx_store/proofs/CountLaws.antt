@@ -6,7 +6,7 @@ use Rattle.stx_base.specs.declared.history.StoreNote.{StoreNote}
 use Rattle.stx_base.specs.declared.history.StoreEntry.{StoreEntry}
 use Rattle.stx_base.specs.Histories.{store_notes}
 use Rattle.stx_base.specs.Stores.{begun_by, begun, is_busy, Transaction, committed_note, committed_by, journal}
-use Rattle.stx_store.specs.Counts.{is_begin, is_committed}
+use Rattle.stx_store.specs.inner.Counts.{is_begin, is_committed}
 
 begun_one : (n : StoreNote) (e : StoreEntry) (kept : List StoreEntry) (ts : List ℕ) → length kept ≡ length ts → length (cond (is_begin n) (e ∷ kept) kept) ≡ length (cons_option (begun_by n) ts)
 begun_one (StoreNote.Begin t) e kept ts h = ap suc h

@@ -12,8 +12,8 @@ use Rattle.stx_base.specs.Legal.{StoreFits, StoreLegal}
 use Rattle.stx_base.proofs.LegalLaws.{StoreLegal-push}
 use Rattle.stx_base.proofs.StoreLaws.{unnamed, few_begun}
 use Rattle.stx_store.specs.Store.{Store}
-use Rattle.stx_store.specs.Counts.{is_begin, is_committed}
-use Rattle.stx_store.specs.Owed.{more_owed, was_owed, owed_all, KeepsStore}
+use Rattle.stx_store.specs.inner.Counts.{is_begin, is_committed}
+use Rattle.stx_store.specs.inner.Owed.{more_owed, was_owed, owed_all, KeepsStore}
 use Rattle.stx_store.proofs.CountLaws.{count-begun, count-journal}
 use Rattle.stx_store.proofs.OwedLaws.{owed-more, owed-spent}
 

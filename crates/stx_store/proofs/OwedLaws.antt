@@ -12,7 +12,7 @@ use Rattle.stx_base.specs.Stores.{store_reply, store_want, store_proper, begun, 
 use Rattle.stx_base.specs.Legal.{StoreFits}
 use Rattle.stx_base.proofs.HistoryLaws.{or-false, sum_below, sum_below-same, sum_below-at, is_live-parts, is_live-push, savepoints-push, store_notes_of-push, store_notes_of-push_other, none_of}
 use Rattle.stx_base.proofs.StoreLaws.{names, lives, begin_number, begun_length-push, is_live_none, is_live-push_other, savepoints_none, savepoints-push_other, Unnamed, live_below}
-use Rattle.stx_store.specs.Owed.{more_owed, was_owed, costs, due, owed_to}
+use Rattle.stx_store.specs.inner.Owed.{more_owed, was_owed, costs, due, owed_to}
 
 abbrev pub entry : ℕ → StoreNote → StoreEntry
 entry client note = record { client = client; note = note }

@@ -1,5 +1,2 @@
 pub mod Store
-pub mod Cells
-pub mod Blocks
-pub mod Counts
-pub mod Owed
+pub mod inner

@@ -2,7 +2,7 @@
 ghost use Rattle.std.specs.Prelude.{◌≡◌};
 ghost use Rattle.stx_base.specs.Histories.{store_notes};
 ghost use Rattle.stx_base.specs.Stores.{access_answer, auto_answer};
-ghost use Rattle.stx_store.specs.Cells.{found_at};
+ghost use Rattle.stx_store.specs.inner.Cells.{found_at};
 
 use crate::locks::{blocker, row_named};
 use crate::rows::{row_after, value_after};

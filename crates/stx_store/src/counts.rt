@@ -1,6 +1,6 @@
 // How many transactions were begun, and how many were committed.
 ghost use Rattle.std.specs.Prelude.{◌≡◌, count_by};
-ghost use Rattle.stx_store.specs.Counts.{is_begin, is_committed};
+ghost use Rattle.stx_store.specs.inner.Counts.{is_begin, is_committed};
 
 use crate::locks::answered_busy;
 use stx_base::{StoreEntry, StoreNote};

@@ -5,7 +5,7 @@ ghost use Rattle.stx_base.specs.Histories.{store_notes};
 ghost use Rattle.stx_base.specs.Stores.{is_busy, ends, takes, smallest, conflicts};
 ghost use Rattle.stx_base.specs.declared.facts.StoreFacts.{StoreFacts};
 ghost use Rattle.stx_base.specs.Alone.{row_of};
-ghost use Rattle.stx_store.specs.Blocks.{blocks, smaller, found_with};
+ghost use Rattle.stx_store.specs.inner.Blocks.{blocks, smaller, found_with};
 
 use stx_base::{Access, Answer, StoreEntry, StoreNote};
 use stx_scenario::RowNo;

@@ -1,6 +1,6 @@
 // Room for an entry, and for all that is owed after it.
-ghost use Rattle.std.specs.Prelude.{◌≡◌, ◌+◌, ◌≤◌, IfOk, vec_len, vec_capacity};
-ghost use Rattle.stx_store.specs.Owed.{more_owed};
+ghost use Rattle.std.specs.Prelude.{◌≡◌, ◌+◌, ◌<◌, ◌≤◌, IfOk, OnErr, vec_len, vec_capacity};
+ghost use Rattle.stx_store.specs.inner.Owed.{more_owed};
 
 use stx_base::{StoreEntry, StoreNote};
 use stx_scenario::NoMemory;
@@ -15,6 +15,7 @@ pub(crate) fn room_for(
     ensures len { vec_len entries.new ≡ vec_len entries.old }
     ensures capacity { vec_capacity entries.old ≤ vec_capacity entries.new }
     ensures ok { IfOk result (λ now. (now ≡ owed + more) × (vec_len entries.new + now + 1 ≤ vec_capacity entries.new)) }
+    ensures full { OnErr result (vec_capacity entries.old < vec_len entries.old + (owed + more + 1)) }
 {
     let Some(now) = owed.checked_add(more) else {
         return Err(NoMemory::uncountable(owed, more));

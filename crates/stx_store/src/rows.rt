@@ -3,7 +3,7 @@ ghost use Rattle.std.specs.Prelude.{◌≡◌, ◌+◌, ◌<◌, ◌^◌, length
 ghost use Rattle.std.specs.FinMap.{get};
 ghost use Rattle.stx_base.specs.Histories.{store_notes};
 ghost use Rattle.stx_base.specs.Stores.{committed_rows, work, savepoints};
-ghost use Rattle.stx_store.specs.Cells.{cell_applied, cell_after, cell_committed, written, back, deeper};
+ghost use Rattle.stx_store.specs.inner.Cells.{cell_applied, cell_after, cell_committed, written, back, deeper};
 
 use crate::locks::answered_busy;
 use stx_base::{Access, StoreEntry, StoreNote};

@@ -6,7 +6,7 @@ ghost use Rattle.stx_base.specs.Stores.{store_proper};
 ghost use Rattle.stx_base.specs.Legal.{StoreFits};
 ghost use Rattle.stx_base.specs.Notes.{store_call_want, store_call_is_sure};
 ghost use Rattle.stx_store.specs.Store.{Store, StoreReplies, StoreCallAnswered, new_store, with_store_entry};
-ghost use Rattle.stx_store.specs.Owed.{was_owed};
+ghost use Rattle.stx_store.specs.inner.Owed.{was_owed};
 
 use crate::answers::{access_answered, auto_answered};
 use crate::counts::{begins, commits};
@@ -34,7 +34,7 @@ pub struct StoreCore {
 impl Model for StoreCore {
     ghost use Rattle.std.specs.Prelude.{vec_len, vec_capacity};
     ghost use Rattle.stx_store.specs.Store.{Store};
-    ghost use Rattle.stx_store.specs.Owed.{KeepsStore};
+    ghost use Rattle.stx_store.specs.inner.Owed.{KeepsStore};
 
     ghost Value = { Store };
 

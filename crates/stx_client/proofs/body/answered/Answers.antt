@@ -5,7 +5,7 @@ use Rattle.stx_base.specs.declared.history.Access.{Access}
 use Rattle.stx_model.specs.Statements.{value_of}
 use Rattle.stx_client.specs.declared.stage.Stage.{Stage}
 use Rattle.stx_client.specs.declared.stage.Then.{Then}
-use Rattle.stx_client.specs.Machine.{inside, means, IsIn, sum_of}
+use Rattle.stx_client.specs.inner.Machine.{inside, means, IsIn, sum_of}
 use Rattle.stx_client.proofs.SumLaws.{hears_sum}
 use Rattle.stx_client.proofs.body.answered.Goals as goal
 

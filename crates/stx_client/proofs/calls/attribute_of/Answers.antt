@@ -2,7 +2,7 @@
 use Rattle.std.proofs.Common.{◌∙◌, sym, ap}
 use Rattle.std.specs.Prelude.{unwrap_or}
 use Rattle.std.specs.Option.{option_copied}
-use Rattle.stx_client.specs.Machine.{default_attribute, attribute_of}
+use Rattle.stx_client.specs.inner.Machine.{default_attribute, attribute_of}
 use Rattle.stx_client.proofs.calls.attribute_of.Goals as goal
 
 pub returns : goal.returns

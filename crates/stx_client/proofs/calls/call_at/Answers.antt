@@ -2,7 +2,7 @@
 use Rattle.std.proofs.Common.{◌∙◌, ◌++◌, ◌∷◌, [], sym, ap}
 use Rattle.std.specs.Option.{option_copied}
 use Rattle.stx_model.proofs.FlatForm.{fresh}
-use Rattle.stx_client.specs.Machine.{outside, attribute_of, later_calls}
+use Rattle.stx_client.specs.inner.Machine.{outside, attribute_of, later_calls}
 use Rattle.stx_client.proofs.StepLaws.{no_call, one_call, is_method, is_early}
 use Rattle.stx_client.proofs.calls.call_at.Goals as goal
 

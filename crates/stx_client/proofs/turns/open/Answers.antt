@@ -3,7 +3,7 @@ use Rattle.std.proofs.Common.{◌∙◌, ◌++◌, ◌∷◌, [], sym, ap}
 use Rattle.stx_base.specs.declared.line.Line.{Line}
 use Rattle.stx_base.specs.declared.manager.Kind.{Kind}
 use Rattle.stx_model.proofs.FlatForm.{opened}
-use Rattle.stx_client.specs.Machine.{inside, goes_on}
+use Rattle.stx_client.specs.inner.Machine.{inside, goes_on}
 use Rattle.stx_client.proofs.turns.open.Goals as goal
 
 pub returns-clause-goes : goal.returns-clause-goes

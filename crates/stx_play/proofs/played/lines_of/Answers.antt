@@ -3,7 +3,7 @@ use Rattle.std.proofs.Common.{rules, ◌≡◌, ◌∙◌, ◌++◌, ◌∷◌, 
 use Rattle.std.proofs.lemmas.List.{map-append}
 use Rattle.std.proofs.lemmas.List.Elements.{All-tail}
 use Rattle.stx_client.specs.View.{lines_of_script}
-use Rattle.stx_play.specs.Playing.{HasEnded, EachEnded}
+use Rattle.stx_play.specs.inner.Turning.{HasEnded, EachEnded}
 use Rattle.stx_play.proofs.played.lines_of.Goals as goal
 
 pub loop-client-preserved : goal.loop-client-preserved

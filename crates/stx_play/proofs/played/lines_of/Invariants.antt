@@ -1,7 +1,7 @@
 -- The lines of the clients so far.
 use Rattle.std.proofs.Common.{◌≡◌, ◌++◌, map}
 use Rattle.stx_client.specs.View.{lines_of_script}
-use Rattle.stx_play.specs.Playing.{EachEnded}
+use Rattle.stx_play.specs.inner.Turning.{EachEnded}
 use Rattle.stx_play.proofs.played.lines_of.Given as goal
 
 abbrev pub invariant-loop-client : goal.invariant-loop-client

@@ -3,7 +3,7 @@ use Rattle.std.proofs.Common.{rules, ◌≡◌, ◌∙◌, length, sym, ap, subs
 use Rattle.std.specs.Prelude.{IfOk}
 use Rattle.std.specs.List.{fold, range_with_len}
 use Rattle.stx_model.specs.Played.{turn, run_out, no_turns, played, outcome_of}
-use Rattle.stx_play.specs.Playing.{with_turns, unplayed, IsClientDone}
+use Rattle.stx_play.specs.Play.{with_turns, unplayed, IsClientDone}
 use Rattle.stx_play.proofs.ScheduleLaws.{one_runs_out, done_below}
 use Rattle.stx_play.proofs.schedule.play.Goals as goal
 

@@ -2,7 +2,7 @@
 use Rattle.std.proofs.Common.{◌≡◌, ℕ, ◌<◌, take}
 use Rattle.std.specs.List.{fold, range_with_len}
 use Rattle.stx_model.specs.Played.{turn, run_out, no_turns}
-use Rattle.stx_play.specs.Playing.{with_turns, unplayed, IsClientDone}
+use Rattle.stx_play.specs.Play.{with_turns, unplayed, IsClientDone}
 use Rattle.stx_play.proofs.schedule.play.Given as goal
 
 abbrev pub invariant-loop-client : goal.invariant-loop-client

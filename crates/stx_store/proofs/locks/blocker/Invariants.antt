@@ -1,7 +1,7 @@
 use Rattle.std.proofs.Common.{◌≡◌, take}
 use Rattle.stx_base.specs.Histories.{store_notes}
 use Rattle.stx_base.specs.Stores.{smallest}
-use Rattle.stx_store.specs.Blocks.{blockers}
+use Rattle.stx_store.specs.inner.Blocks.{blockers}
 use Rattle.stx_store.proofs.locks.blocker.Given as goal
 
 abbrev pub invariant-loop-entry : goal.invariant-loop-entry

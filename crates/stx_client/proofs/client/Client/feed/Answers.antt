@@ -1,7 +1,7 @@
 -- A note more: what was said before is still its beginning, and the machine goes on.
 use Rattle.std.proofs.Common.{◌≡◌, ◌∙◌, ◌++◌, ◌∷◌, [], false, true, sym, ap, arith}
 use Rattle.stx_base.specs.Notes.{note_line}
-use Rattle.stx_client.specs.Holding.{has_failed, holds_connection, holds_session, connection_after, session_after}
+use Rattle.stx_client.specs.inner.Holding.{has_failed, holds_connection, holds_session, connection_after, session_after}
 use Rattle.stx_client.specs.View.{pool_with, store_with}
 use Rattle.stx_client.proofs.ClientLaws.{RunsOn, going, out_is, not_failed, reads_now, starts_now, starts_with, runs_with, said_now, fed_is}
 use Rattle.stx_client.proofs.client.Client.feed.Goals as goal

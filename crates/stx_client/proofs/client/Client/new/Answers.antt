@@ -4,7 +4,7 @@ use Rattle.stx_model.specs.Meanings.{state_of}
 use Rattle.stx_model.specs.Script.{script}
 use Rattle.stx_model.proofs.FlatForm.{flat_script}
 use Rattle.stx_model.proofs.FlatTransfer.{script_is_flat}
-use Rattle.stx_client.specs.Machine.{outside, tops_from}
+use Rattle.stx_client.specs.inner.Machine.{outside, tops_from}
 use Rattle.stx_client.proofs.ClientLaws.{RunsOn, stops_now, reads_now, starts_now}
 use Rattle.stx_client.proofs.HoldingLaws.{between_ok, between_connection, between_session}
 use Rattle.stx_client.proofs.client.Client.new.Goals as goal

@@ -1,7 +1,8 @@
 -- The outcome, where every client is done.
 use Rattle.std.proofs.Common.{◌∙◌, sym, ap, subst}
 use Rattle.stx_model.specs.Faithful.{Faithful}
-use Rattle.stx_play.specs.Playing.{AllDone, turns_of}
+use Rattle.stx_play.specs.Play.{AllDone}
+use Rattle.stx_play.specs.inner.Turning.{turns_of}
 use Rattle.stx_play.proofs.PlayedLaws.{each_ended, lines_are, faithful}
 use Rattle.stx_play.proofs.played.Played.finish.Goals as goal
 

@@ -3,7 +3,7 @@ use Rattle.std.proofs.Common.{◌≡◌, ◌∙◌, ◌<◌, length, Some, refl,
 use Rattle.std.proofs.lemmas.Bool.{false≢true}
 use Rattle.stx_base.specs.declared.call.Want.{Want}
 use Rattle.stx_model.specs.Played.{want_so_far}
-use Rattle.stx_play.specs.Playing.{turns_of}
+use Rattle.stx_play.specs.inner.Turning.{turns_of}
 use Rattle.stx_play.proofs.PlayedLaws.{count, want_at}
 use Rattle.stx_play.proofs.played.Played.is_done.Goals as goal
 

@@ -1,7 +1,8 @@
 -- One turn more, and the last.
 use Rattle.std.proofs.Common.{◌≡◌, ◌∙◌, ◌+◌, ◌≤◌, refl, sym, ap, subst, arith}
 use Rattle.stx_model.specs.Played.{turn, turns, most_calls}
-use Rattle.stx_play.specs.Playing.{count_entries, IsClientDone}
+use Rattle.stx_play.specs.Play.{IsClientDone}
+use Rattle.stx_play.specs.inner.Turning.{count_entries}
 use Rattle.stx_play.proofs.PlayedLaws.{turns_one, turns_to_end}
 use Rattle.stx_play.proofs.played.Played.run_out.Goals as goal
 

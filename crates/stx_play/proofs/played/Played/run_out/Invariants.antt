@@ -1,7 +1,7 @@
 -- So many turns were made.
 use Rattle.std.proofs.Common.{◌≡◌, ℕ, ◌+◌, ◌-◌, ◌≤◌, false}
 use Rattle.stx_model.specs.Played.{turns, most_calls}
-use Rattle.stx_play.specs.Playing.{count_entries}
+use Rattle.stx_play.specs.inner.Turning.{count_entries}
 use Rattle.stx_play.proofs.played.Played.run_out.Given as goal
 
 abbrev pub invariant-loop-alloc : goal.invariant-loop-alloc

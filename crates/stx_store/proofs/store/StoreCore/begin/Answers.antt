@@ -1,7 +1,7 @@
 use Rattle.std.proofs.Common.{◌≡◌, ◌+◌, count_by, sym, ap, ◌∙◌, arith}
 use Rattle.stx_base.specs.declared.history.StoreNote.{StoreNote}
 use Rattle.stx_store.specs.Store.{with_store_entry}
-use Rattle.stx_store.specs.Counts.{is_begin}
+use Rattle.stx_store.specs.inner.Counts.{is_begin}
 use Rattle.stx_store.proofs.FitLaws.{begin-reply, few_begins, seen}
 use Rattle.stx_store.proofs.store.StoreCore.begin.Goals as goal
 

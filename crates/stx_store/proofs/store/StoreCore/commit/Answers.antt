@@ -3,7 +3,7 @@ use Rattle.stx_base.specs.declared.history.StoreNote.{StoreNote}
 use Rattle.stx_base.specs.Limits.{most_clients}
 use Rattle.stx_base.specs.Legal.{StoreFits}
 use Rattle.stx_store.specs.Store.{with_store_entry}
-use Rattle.stx_store.specs.Counts.{is_committed}
+use Rattle.stx_store.specs.inner.Counts.{is_committed}
 use Rattle.stx_store.proofs.OwedLaws.{entry}
 use Rattle.stx_store.proofs.FitLaws.{commit-reply, seen}
 use Rattle.stx_store.proofs.store.StoreCore.commit.Goals as goal

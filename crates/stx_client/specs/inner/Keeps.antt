@@ -10,8 +10,8 @@ use Rattle.stx_model.specs.Playable.{IsPlayable}
 use Rattle.stx_model.specs.Reads.{StartsWith}
 use Rattle.stx_client.specs.declared.stage.At.{At}
 use Rattle.stx_client.specs.declared.tokens.Tokens.{Tokens}
-use Rattle.stx_client.specs.Machine.{run, IsSound}
-use Rattle.stx_client.specs.Holding.{has_failed, holds_connection, holds_session}
+use Rattle.stx_client.specs.inner.Machine.{run, IsSound}
+use Rattle.stx_client.specs.inner.Holding.{has_failed, holds_connection, holds_session}
 
 -- the lines and what is left are the script, whatever notes are still to come
 pub record Keeps (S : Scenario) (n : ℕ) (at : At) (lines : List Line) (pool : List PoolNote) (store : List StoreNote) : Type 0 where

@@ -1,4 +1,4 @@
--- A play as contracts see it, and what its fields keep true.
+-- The parts of a play, one call, one turn, and what the fields keep true.
 use Rattle.std.specs.Prelude.{◌≡◌, ℕ, ◌+◌, ◌<◌, ◌≤◌, Bool, false, List, [], length, map, Some, None, IsTrue}
 use Rattle.std.specs.List.{range_with_len, All}
 use Rattle.stx_scenario.specs.declared.scenario.Scenario.{Scenario}
@@ -9,7 +9,7 @@ use Rattle.stx_base.specs.Histories.{pool_notes_of, store_notes_of}
 use Rattle.stx_base.specs.Legal.{PoolLegal, StoreLegal}
 use Rattle.stx_model.specs.Playable.{IsPlayable}
 use Rattle.stx_model.specs.Reads.{ReadsAll}
-use Rattle.stx_model.specs.Played.{Turns, no_turns, turn, want_so_far, most_calls}
+use Rattle.stx_model.specs.Played.{Turns, turn, most_calls}
 use Rattle.stx_model.specs.Meanings.{stop_of}
 use Rattle.stx_base.specs.Notes.{pool_call_want, store_call_want}
 use Rattle.stx_base.specs.Pools.{pool_proper}
@@ -17,30 +17,7 @@ use Rattle.stx_base.specs.Stores.{store_proper, store_facts}
 use Rattle.stx_client.specs.View.{ClientView, script_of, has_told}
 use Rattle.stx_pool.specs.Pool.{Pool, PoolCallAnswered}
 use Rattle.stx_store.specs.Store.{Store, StoreCallAnswered}
-
--- ---- a play
-
--- the histories so far, and whether memory has run out: then it can only be dropped
-pub record PlayView : Type 0 where
-  pub scenario : Scenario
-  pub so_far : Turns
-  pub failed : Bool
-
-abbrev pub unplayed : Scenario → PlayView
-unplayed S = record { scenario = S; so_far = no_turns; failed = false }
-
-abbrev pub with_turn : PlayView → ℕ → PlayView
-with_turn play c = record { scenario = play.scenario; so_far = turn play.scenario play.so_far c; failed = play.failed }
-
-abbrev pub with_turns : PlayView → Turns → PlayView
-with_turns play so_far = record { scenario = play.scenario; so_far = so_far; failed = play.failed }
-
-abbrev pub IsClientDone : Scenario → Turns → ℕ → Type 0
-IsClientDone S so_far c = want_so_far S so_far c ≡ Some Want.Done
-
--- every client has made all of its calls
-abbrev pub AllDone : Scenario → Turns → Type 0
-AllDone S so_far = (c : ℕ) → c < length S.clients → IsClientDone S so_far c
+use Rattle.stx_play.specs.Play.{PlayView}
 
 abbrev pub count_entries : Turns → ℕ
 count_entries so_far = length so_far.pool + length so_far.store

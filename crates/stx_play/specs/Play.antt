@@ -1,0 +1,27 @@
+-- A play as contracts see it, and what turns make of it.
+use Rattle.std.specs.Prelude.{◌≡◌, ℕ, ◌<◌, Bool, false, length, Some}
+use Rattle.stx_scenario.specs.declared.scenario.Scenario.{Scenario}
+use Rattle.stx_base.specs.declared.call.Want.{Want}
+use Rattle.stx_model.specs.Played.{Turns, no_turns, turn, want_so_far}
+
+-- the histories so far, and whether memory has run out: then it can only be dropped
+pub record PlayView : Type 0 where
+  pub scenario : Scenario
+  pub so_far : Turns
+  pub failed : Bool
+
+abbrev pub unplayed : Scenario → PlayView
+unplayed S = record { scenario = S; so_far = no_turns; failed = false }
+
+abbrev pub with_turn : PlayView → ℕ → PlayView
+with_turn play c = record { scenario = play.scenario; so_far = turn play.scenario play.so_far c; failed = play.failed }
+
+abbrev pub with_turns : PlayView → Turns → PlayView
+with_turns play so_far = record { scenario = play.scenario; so_far = so_far; failed = play.failed }
+
+abbrev pub IsClientDone : Scenario → Turns → ℕ → Type 0
+IsClientDone S so_far c = want_so_far S so_far c ≡ Some Want.Done
+
+-- every client has made all of its calls
+abbrev pub AllDone : Scenario → Turns → Type 0
+AllDone S so_far = (c : ℕ) → c < length S.clients → IsClientDone S so_far c

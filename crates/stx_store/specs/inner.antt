@@ -1,0 +1,5 @@
+-- Words of this crate's own functions and invariants; no caller needs them.
+pub mod Cells
+pub mod Blocks
+pub mod Counts
+pub mod Owed
