@@ -9,7 +9,7 @@ use Rattle.stx_scenario.specs.declared.scenario.Stmt.{Stmt}
 use Rattle.stx_scenario.specs.declared.scenario.Propagation.{Propagation}
 use Rattle.stx_scenario.specs.declared.scenario.TxAttr.{TxAttr}
 use Rattle.stx_scenario.specs.BuiltIn.{built_in}
-use Rattle.stx_base.specs.Limits.{most_clients, most_connections, most_calls, most_rules, most_statements, most_weight, numbers}
+use Rattle.stx_base.specs.Limits.{most_clients, most_connections, most_calls, most_rules, most_statements, most_weight, number_bound}
 use Rattle.stx_base.specs.Attributes.{method_attribute}
 use Rattle.stx_base.specs.Classes.{IsTree}
 use Rattle.stx_base.specs.Weight.{body_of}
@@ -64,7 +64,7 @@ pub record AreFlatCalls (S : Scenario) (calls : List MethodNo) : Type 0 where
 
 pub record IsFlat (S : Scenario) : Type 0 where
   pub built_in_first : take (length built_in) S.classes ≡ built_in
-  pub few_classes : length S.classes < numbers
+  pub few_classes : length S.classes < number_bound
   pub tree : IsTree S.classes
   pub methods : (m : ℕ) (method : Method) → slice_get S.methods m ≡ Some method → IsFlatMethod S method
   pub clients : (c : ℕ) (calls : List MethodNo) → slice_get S.clients c ≡ Some calls → AreFlatCalls S calls
