@@ -15,8 +15,8 @@ use Rattle.stx_base.specs.declared.history.StoreEntry.{StoreEntry}
 use Rattle.stx_base.specs.Alone.{RowMap, first_rows, applied, after}
 use Rattle.stx_base.specs.Histories.{store_notes}
 use Rattle.stx_base.specs.Stores.{is_busy, work, committed_note, committed_by, after_all}
-use Rattle.stx_report.specs.Kept.{Kept, kept_of}
-use Rattle.stx_report.specs.RowValues.{values_from, written, all_written, committed_values}
+use Rattle.stx_report.specs.inner.Kept.{Kept, kept_of}
+use Rattle.stx_report.specs.inner.RowValues.{values_from, written, all_written, committed_values}
 use Rattle.stx_report.proofs.KeptLaws.{after-kept}
 
 -- ---- an access

@@ -2,6 +2,8 @@
 use Rattle.std.specs.Prelude.{◌≡◌, ℕ, suc, ◌<◌, true, List}
 use Rattle.stx_scenario.specs.declared.numbers.MethodNo.{MethodNo}
 use Rattle.stx_base.specs.Weight.{Next, Way, IsOnCycle, has_method}
+use Rattle.stx_graph.specs.declared.graph.GraphFault.{GraphFault}
+use Rattle.stx_graph.specs.Ranks.{IsFirst}
 
 -- the list holds exactly the methods to which a way of one or more steps leads
 pub record AreReached (next : Next) (start : MethodNo) (order : List MethodNo) : Type 0 where
@@ -11,3 +13,10 @@ pub record AreReached (next : Next) (start : MethodNo) (order : List MethodNo) :
 -- no method with a lesser number leads to itself
 abbrev pub NoneBelow : Next → ℕ → Type 0
 NoneBelow next bound = (m : MethodNo) → m.0 < bound → ¬ (IsOnCycle next m)
+
+-- the fault where this is the first method from which a way is too long: a cycle's first method comes before it
+abbrev pub IsDepthFault : Next → ℕ → MethodNo → GraphFault → Type 0
+IsDepthFault next count method (GraphFault.CallCycle m) = IsFirst (IsOnCycle next) m
+IsDepthFault next count method (GraphFault.TooDeep m) = NoneBelow next count × (m ≡ method)
+IsDepthFault next count method GraphFault.TooLarge = ⊥
+IsDepthFault next count method (GraphFault.NoMemory _) = Unit {0}
