@@ -1,3 +1,3 @@
-pub mod Flaws
 pub mod Tree
 pub mod Laws
+pub mod inner

@@ -1,6 +1,6 @@
 // Steps from a class up to those above it, and the classes that make no tree.
 ghost use Rattle.std.specs.Prelude.{◌≡◌, ◌<◌, ◌^◌, length};
-ghost use Rattle.stx_classes.specs.Flaws.{has_flaw};
+ghost use Rattle.stx_classes.specs.inner.Flaws.{has_flaw};
 ghost use Rattle.stx_base.specs.Classes.{number_above, parent_in, depth_in, has_unknown_parent, is_own_ancestor, is_too_deep, first_class};
 
 use stx_scenario::{ClassNo, DEEPEST_CLASS, THROWABLE};

@@ -6,7 +6,7 @@ use Rattle.std.proofs.lemmas.List.{map-append}
 use Rattle.stx_scenario.specs.declared.numbers.MethodNo.{MethodNo}
 use Rattle.stx_scenario.specs.declared.scenario.Stmt.{Stmt}
 use Rattle.stx_base.specs.Weight.{no_cost, plus, total, callback_cost, callbacks_cost}
-use Rattle.stx_graph.specs.Costs.{cap, capped, added}
+use Rattle.stx_graph.specs.inner.Costs.{cap, capped, added}
 
 pub cost_same : (a b : Cost) → a.size ≡ b.size → a.registrations ≡ b.registrations → a ≡ b
 cost_same a b e r =

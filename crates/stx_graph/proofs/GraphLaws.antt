@@ -12,12 +12,14 @@ use Rattle.stx_base.specs.declared.cost.Cost.{Cost}
 use Rattle.stx_base.specs.Weight.{body_in, led, leads, has_method, Next, LeadsTo, Way, IsOnCycle, above, longest, rank, cost, cost_within, total, client_weight, weight_of, weight, MethodsInRange, InRange}
 use Rattle.stx_base.proofs.WayLaws.{has_itself, above_more, above_most, above_same, longest_settled, longest_more, shallow, IsAcyclic}
 use Rattle.stx_base.proofs.WeightLaws.{acyclic_from, cost_settled}
-use Rattle.stx_graph.specs.Rows.{next_in, Same, MethodRows}
-use Rattle.stx_graph.specs.Ranks.{rank_at, AreLongest, IsFirst}
 use Rattle.stx_base.specs.Weight.{HasNoCycle}
-use Rattle.stx_graph.specs.Cycles.{AreReached}
-use Rattle.stx_graph.specs.Costs.{cap}
-use Rattle.stx_graph.specs.Graph.{LeadsToItself, IsTooDeep, NoCycle, NoneTooDeep, IsDue, IsDepthFault}
+use Rattle.stx_graph.specs.inner.Rows.{next_in, Same, MethodRows}
+use Rattle.stx_graph.specs.Ranks.{IsFirst}
+use Rattle.stx_graph.specs.inner.Rounds.{rank_at, AreLongest}
+use Rattle.stx_graph.specs.inner.Cycles.{AreReached}
+use Rattle.stx_graph.specs.inner.Costs.{cap}
+use Rattle.stx_graph.specs.Graph.{LeadsToItself, IsTooDeep, NoCycle, NoneTooDeep, IsDue}
+use Rattle.stx_graph.specs.inner.Cycles.{IsDepthFault}
 use Rattle.stx_graph.specs.declared.graph.GraphFault.{GraphFault}
 use Rattle.stx_graph.proofs.RankLaws.{row_below}
 

@@ -7,8 +7,8 @@ use Rattle.std.proofs.lemmas.List.Elements.{All-head, All-tail, All-from_get_or}
 use Rattle.stx_base.proofs.WayLaws.{above_same, longest_within}
 use Rattle.stx_scenario.specs.declared.numbers.MethodNo.{MethodNo}
 use Rattle.stx_base.specs.Weight.{above, longest, has_method, MethodsInRange}
-use Rattle.stx_graph.specs.Rows.{next_in, row_at, RowsInRange}
-use Rattle.stx_graph.specs.Ranks.{rank_at, raised, AreLongest}
+use Rattle.stx_graph.specs.inner.Rows.{next_in, row_at, RowsInRange}
+use Rattle.stx_graph.specs.inner.Rounds.{rank_at, raised, AreLongest}
 
 max_more : (a r t : ℕ) → max (max a (r + 1)) t ≡ max a (max (r + 1) t)
 max_more a r t = omega arith

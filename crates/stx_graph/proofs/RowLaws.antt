@@ -18,7 +18,7 @@ use Rattle.stx_scenario.specs.declared.scenario.Stmt.{Stmt}
 use Rattle.stx_base.specs.Weight.{body_in, called, calls, callbacks, callbacks_in, led, leads, has_method, StatementInRange, BodyInRange, MethodsInRange, InRange}
 use Rattle.stx_base.proofs.WayLaws.{same_method}
 use Rattle.stx_base.proofs.WeightLaws.{has_append}
-use Rattle.stx_graph.specs.Rows.{with_method, with_called, with_listener, with_led, sync_order, row_at, Same, AreRows, EventRows, SyncRows, event_calls, sync_calls}
+use Rattle.stx_graph.specs.inner.Rows.{with_method, with_called, with_listener, with_led, sync_order, row_at, Same, AreRows, EventRows, SyncRows, event_calls, sync_calls}
 
 -- these methods, and then those
 abbrev pub Joins : List MethodNo → List MethodNo → List MethodNo → Type 0

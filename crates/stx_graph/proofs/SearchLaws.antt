@@ -6,8 +6,8 @@ use Rattle.std.proofs.lemmas.List.Folds.{Any-from_list_any, list_any_at}
 use Rattle.stx_scenario.specs.declared.numbers.MethodNo.{MethodNo}
 use Rattle.stx_base.specs.Weight.{has_method, Way}
 use Rattle.stx_base.proofs.WayLaws.{same_method, Leads, leads_once, leads_more}
-use Rattle.stx_graph.specs.Rows.{with_method, row_at, next_in}
-use Rattle.stx_graph.specs.Cycles.{AreReached}
+use Rattle.stx_graph.specs.inner.Rows.{with_method, row_at, next_in}
+use Rattle.stx_graph.specs.inner.Cycles.{AreReached}
 use Rattle.stx_graph.proofs.RowLaws.{joins_methods}
 
 -- what is found after so many turns: each method of a turn has all its methods found

@@ -17,7 +17,7 @@ use Rattle.stx_base.specs.declared.cost.Cost.{Cost}
 use Rattle.stx_base.specs.Weight.{no_cost, one, one_registered, plus, total, body_in, body_of, callbacks, callbacks_in, callbacks_of, called, calls, led, leads, listeners_of, has_method, callback_cost, callbacks_cost, listener_cost, statement_cost, body_cost, cost_within, client_weight, weight_of, StatementInRange, BodyInRange, MethodsInRange, InRange}
 use Rattle.stx_base.proofs.WayLaws.{has_itself}
 use Rattle.stx_base.proofs.WeightLaws.{has_append, leads_below}
-use Rattle.stx_graph.specs.Costs.{cap, capped, cost_at, statement_at, event_cost, AreCosts}
+use Rattle.stx_graph.specs.inner.Costs.{cap, capped, cost_at, statement_at, event_cost, AreCosts}
 use Rattle.stx_graph.proofs.CostLaws.{capped_both, capped_twice}
 use Rattle.stx_graph.proofs.RankLaws.{row_below}
 use Rattle.stx_graph.proofs.RowLaws.{item_keeps}

@@ -4,10 +4,9 @@ use Rattle.std.specs.List.{range_with_len}
 use Rattle.stx_scenario.specs.declared.limits.TheConstants.{GREATEST_RANK, GREATEST_WEIGHT}
 use Rattle.stx_scenario.specs.declared.numbers.MethodNo.{MethodNo}
 use Rattle.stx_scenario.specs.declared.scenario.Scenario.{Scenario}
-use Rattle.stx_base.specs.Weight.{Next, leads, IsOnCycle, above, rank, body_of, body_cost, cost, weight}
+use Rattle.stx_base.specs.Weight.{leads, IsOnCycle, above, rank, body_of, body_cost, cost, weight}
 use Rattle.stx_graph.specs.declared.graph.GraphFault.{GraphFault}
 use Rattle.stx_graph.specs.Ranks.{IsFirst}
-use Rattle.stx_base.specs.Weight.{HasNoCycle}
 
 -- the ranks of the methods, in their order, and the weight
 pub record Weighed : Type 0 where
@@ -48,10 +47,3 @@ IsDue S (GraphFault.CallCycle m) = IsFirst (LeadsToItself S) m
 IsDue S (GraphFault.TooDeep m) = NoCycle S × IsFirst (IsTooDeep S) m
 IsDue S GraphFault.TooLarge = NoCycle S × NoneTooDeep S × (GREATEST_WEIGHT < weight S)
 IsDue S (GraphFault.NoMemory _) = Unit {0}
-
--- the fault where this is the first method from which a way is too long: a cycle's first method comes before it
-abbrev pub IsDepthFault : Next → ℕ → MethodNo → GraphFault → Type 0
-IsDepthFault next count method (GraphFault.CallCycle m) = IsFirst (IsOnCycle next) m
-IsDepthFault next count method (GraphFault.TooDeep m) = HasNoCycle next count × (m ≡ method)
-IsDepthFault next count method GraphFault.TooLarge = ⊥
-IsDepthFault next count method (GraphFault.NoMemory _) = Unit {0}

@@ -1,5 +1,3 @@
-pub mod Rows
 pub mod Ranks
-pub mod Cycles
-pub mod Costs
 pub mod Graph
+pub mod inner

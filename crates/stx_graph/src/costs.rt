@@ -1,7 +1,7 @@
 // What statements and bodies cost, given what the methods cost. Each cost stops at a cap.
 ghost use Rattle.std.specs.Prelude.{◌≡◌, ◌==◌, ◌<◌, length, map, filter, All};
 ghost use Rattle.stx_base.specs.Weight.{no_cost, one, plus, total, callback_cost, callbacks_cost, callbacks, listener_cost, CallbackInRange, CallbacksInRange, SyncInRange, StatementInRange, BodyInRange, MethodsInRange};
-ghost use Rattle.stx_graph.specs.Costs.{added, capped, cost_at, statement_at};
+ghost use Rattle.stx_graph.specs.inner.Costs.{added, capped, cost_at, statement_at};
 
 use stx_base::Cost;
 use stx_scenario::{GREATEST_WEIGHT, Listener, MethodNo, Stmt, SyncDecl};

@@ -2,10 +2,10 @@
 ghost use Rattle.std.specs.Prelude.{◌≡◌, ◌<◌, ◌^◌, ◌↔◌, length, IfOk, IsTrue, MatchOption};
 ghost use Rattle.stx_scenario.specs.declared.numbers.MethodNo.{MethodNo};
 ghost use Rattle.stx_base.specs.Weight.{IsOnCycle};
-ghost use Rattle.stx_graph.specs.Rows.{RowsInRange, next_in};
-ghost use Rattle.stx_graph.specs.Ranks.{IsFirst};
 ghost use Rattle.stx_base.specs.Weight.{HasNoCycle};
-ghost use Rattle.stx_graph.specs.Cycles.{AreReached};
+ghost use Rattle.stx_graph.specs.inner.Rows.{RowsInRange, next_in};
+ghost use Rattle.stx_graph.specs.Ranks.{IsFirst};
+ghost use Rattle.stx_graph.specs.inner.Cycles.{AreReached};
 
 use crate::method_set::MethodSet;
 use crate::rows::Rows;

@@ -1,8 +1,9 @@
 // The call graph, and why a scenario has none.
 ghost use Rattle.std.specs.Prelude.{◌≡◌, ◌<◌, ◌^◌, length, slice_get, Some, IfOk, IfErr};
 ghost use Rattle.stx_base.specs.Weight.{InRange};
-ghost use Rattle.stx_graph.specs.Rows.{RowsInRange, next_in};
-ghost use Rattle.stx_graph.specs.Graph.{weighed, IsAccepted, IsDue, IsDepthFault};
+ghost use Rattle.stx_graph.specs.inner.Rows.{RowsInRange, next_in};
+ghost use Rattle.stx_graph.specs.Graph.{weighed, IsAccepted, IsDue};
+ghost use Rattle.stx_graph.specs.inner.Cycles.{IsDepthFault};
 
 use crate::cycles::first_on_cycle;
 use crate::ranks::{first_too_deep, longest_ways};

@@ -1,7 +1,7 @@
 // A set of methods that keeps the order in which they came.
 ghost use Rattle.std.specs.Prelude.{◌≡◌, ◌<◌, [], length, fold, IfOk, OnOk};
 ghost use Rattle.stx_base.specs.Weight.{has_method, MethodsInRange};
-ghost use Rattle.stx_graph.specs.Rows.{IsMarked, with_method};
+ghost use Rattle.stx_graph.specs.inner.Rows.{IsMarked, with_method};
 
 use std::alloc::Global;
 use stx_scenario::{MethodNo, NoMemory};

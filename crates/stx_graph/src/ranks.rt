@@ -2,8 +2,9 @@
 ghost use Rattle.std.specs.Prelude.{◌≡◌, ◌+◌, ◌<◌, ◌≤◌, ◌^◌, length, map, IfOk, All, MatchOption, ℕ};
 ghost use Rattle.stx_scenario.specs.declared.numbers.MethodNo.{MethodNo};
 ghost use Rattle.stx_base.specs.Weight.{MethodsInRange};
-ghost use Rattle.stx_graph.specs.Rows.{RowsInRange};
-ghost use Rattle.stx_graph.specs.Ranks.{raised, rank_at, AreLongest, IsFirst};
+ghost use Rattle.stx_graph.specs.inner.Rows.{RowsInRange};
+ghost use Rattle.stx_graph.specs.Ranks.{IsFirst};
+ghost use Rattle.stx_graph.specs.inner.Rounds.{raised, rank_at, AreLongest};
 
 use crate::rows::Rows;
 use std::alloc::Global;

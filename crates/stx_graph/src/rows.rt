@@ -1,7 +1,7 @@
 // The methods to which each method leads, each once.
 ghost use Rattle.std.specs.Prelude.{◌≡◌, ◌<◌, ◌^◌, [], length, fold, IfOk, OnOk, All};
 ghost use Rattle.stx_base.specs.Weight.{CallbacksInRange, SyncInRange, StatementInRange, BodyInRange, MethodsInRange, InRange};
-ghost use Rattle.stx_graph.specs.Rows.{with_called, with_led, with_listener, sync_order, row_at, RowsInRange, EventRows, SyncRows, MethodRows};
+ghost use Rattle.stx_graph.specs.inner.Rows.{with_called, with_led, with_listener, sync_order, row_at, RowsInRange, EventRows, SyncRows, MethodRows};
 
 use crate::method_set::MethodSet;
 use std::alloc::Global;

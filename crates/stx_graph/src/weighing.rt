@@ -3,7 +3,7 @@ ghost use Rattle.std.specs.Prelude.{◌≡◌, ◌<◌, length, map, min, sum, I
 ghost use Rattle.std.specs.List.{range_with_len};
 ghost use Rattle.stx_scenario.specs.declared.numbers.EventNo.{EventNo};
 ghost use Rattle.stx_base.specs.Weight.{body_cost, callbacks_cost, callbacks, client_weight, weight_of, cost_within, InRange};
-ghost use Rattle.stx_graph.specs.Costs.{AreCosts, cap, capped, cost_at, event_cost};
+ghost use Rattle.stx_graph.specs.inner.Costs.{AreCosts, cap, capped, cost_at, event_cost};
 
 use crate::costs::{CAP, NOTHING, calls_cost, event_cost, method_cost, sync_cost};
 use crate::ranks::ROUNDS;

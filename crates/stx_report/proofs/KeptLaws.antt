@@ -8,7 +8,7 @@ use Rattle.stx_base.specs.declared.history.Access.{Access}
 use Rattle.stx_base.specs.declared.history.StoreNote.{StoreNote}
 use Rattle.stx_base.specs.Alone.{RowMap, Alone, applied, stepped, after}
 use Rattle.stx_base.specs.Stores.{is_busy, works, work}
-use Rattle.stx_report.specs.Kept.{Kept, nothing, kept_after, kept_of, worker}
+use Rattle.stx_report.specs.inner.Kept.{Kept, nothing, kept_after, kept_of, worker}
 
 -- ---- the rows after the work are those after what is kept
 

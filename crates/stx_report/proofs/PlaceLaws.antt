@@ -4,7 +4,7 @@ use Rattle.std.proofs.lemmas.Bool.{cases_eq}
 use Rattle.std.proofs.lemmas.List.{take_more, length-take-le, length-set, length-replicate, get_or-set_same, get_or-set_other, get_or-replicate, take_all}
 use Rattle.std.proofs.lemmas.Option.{get_or_from_slice_get, slice_get-get_or}
 use Rattle.stx_base.specs.Report.{places_of}
-use Rattle.stx_report.specs.Places.{AreEach, AreHandedOut, placed}
+use Rattle.stx_report.specs.inner.Places.{AreEach, AreHandedOut, placed}
 
 -- the place of one entry, where the client made it
 abbrev place_if : Bool → ℕ → List ℕ

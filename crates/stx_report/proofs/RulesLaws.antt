@@ -10,7 +10,7 @@ use Rattle.stx_scenario.specs.declared.scenario.TxAttr.{TxAttr}
 use Rattle.stx_base.specs.Rules.{winner, rolls_back}
 use Rattle.stx_base.specs.Lines.{method_name, class_name}
 use Rattle.stx_base.specs.RulesText.{decision_text, method_decisions, method_numbered, rules_text}
-use Rattle.stx_report.specs.Decisions.{decision_line}
+use Rattle.stx_report.specs.inner.Decisions.{decision_line}
 
 -- what all numbers below n add
 abbrev pub all_below : (ℕ → List ℕ) → ℕ → List ℕ

@@ -17,7 +17,7 @@ use Rattle.stx_base.specs.Lines.{Shared, shared_by, line_text, line_feed}
 use Rattle.stx_base.specs.Report.{next_place, pool_left, store_left, lines_text, client_text, clients_text, commit_words, commit_text, journal_text, named_row, rows_text, by_name, final_rows, printed}
 use Rattle.stx_base.specs.Alone.{RowMap}
 use Rattle.stx_base.specs.Stores.{committed_rows}
-use Rattle.stx_report.specs.RowValues.{values_from, found_rows}
+use Rattle.stx_report.specs.inner.RowValues.{values_from, found_rows}
 
 -- rows put among sorted rows, one after the other
 abbrev pub with_rows : List (List ℕ × ℤ) → List (List ℕ × ℤ) → List (List ℕ × ℤ)

@@ -13,8 +13,8 @@ use Rattle.stx_base.specs.Alone.{RowMap, applied}
 use Rattle.stx_base.specs.Histories.{store_notes}
 use Rattle.stx_base.specs.Stores.{is_busy, work, committed_note, after_all}
 use Rattle.stx_base.proofs.RowLaws.{rows_so_far, rows_so_far-more}
-use Rattle.stx_report.specs.Kept.{Kept, kept_of}
-use Rattle.stx_report.specs.RowValues.{values_from, written, all_written, committed_values}
+use Rattle.stx_report.specs.inner.Kept.{Kept, kept_of}
+use Rattle.stx_report.specs.inner.RowValues.{values_from, written, all_written, committed_values}
 use Rattle.stx_report.proofs.KeptLaws.{after-kept}
 
 -- ---- an access

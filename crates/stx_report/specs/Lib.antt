@@ -1,5 +1,1 @@
-pub mod Kept
-pub mod KeptWorks
-pub mod RowValues
-pub mod Places
-pub mod Decisions
+pub mod inner

@@ -2,7 +2,7 @@
 ghost use Rattle.std.specs.Prelude.{◌≡◌, ◌++◌, OnOk, drop};
 ghost use Rattle.stx_base.specs.Report as texts;
 ghost use Rattle.stx_trace.specs.LineKinds.{shared_of};
-ghost use Rattle.stx_report.specs.Places.{client_words};
+ghost use Rattle.stx_report.specs.inner.Places.{client_words};
 
 use crate::places::{pool_places, store_places};
 use crate::text::push_text;

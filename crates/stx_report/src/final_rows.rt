@@ -7,9 +7,9 @@ ghost use Rattle.std.specs.Prelude.{◌≡◌, ℕ, set, IfOk, OnOk, if◌then�
 ghost use Rattle.stx_base.specs.Alone.{first_rows};
 ghost use Rattle.stx_base.specs.Histories.{store_notes};
 ghost use Rattle.stx_base.specs.Stores.{committed_rows, work};
-ghost use Rattle.stx_report.specs.Kept.{kept_after, kept_of, nothing, worker};
-ghost use Rattle.stx_report.specs.KeptWorks.{kept_by};
-ghost use Rattle.stx_report.specs.RowValues.{values_from, written, all_written, committed_values};
+ghost use Rattle.stx_report.specs.inner.Kept.{kept_after, kept_of, nothing, worker};
+ghost use Rattle.stx_report.specs.inner.KeptWorks.{kept_by};
+ghost use Rattle.stx_report.specs.inner.RowValues.{values_from, written, all_written, committed_values};
 
 use std::alloc::Global;
 use std::collections::BTreeMap;
@@ -28,7 +28,7 @@ pub struct KeptWork {
 
 impl Model for KeptWork {
     ghost use Rattle.std.specs.Prelude.{reverse};
-    ghost use Rattle.stx_report.specs.Kept.{Kept};
+    ghost use Rattle.stx_report.specs.inner.Kept.{Kept};
 
     ghost Value = { Kept };
 

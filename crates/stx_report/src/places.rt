@@ -1,7 +1,7 @@
 // The places of each client's entries in a history, handed out in one walk over the history.
 ghost use Rattle.std.specs.Prelude.{◌≡◌, ℕ, ◌<◌, IfOk, OnOk, replicate, []};
 ghost use Rattle.stx_base.specs.Report as texts;
-ghost use Rattle.stx_report.specs.Places.{AreEach, AreHandedOut, placed};
+ghost use Rattle.stx_report.specs.inner.Places.{AreEach, AreHandedOut, placed};
 
 use std::alloc::Global;
 use stx_base::{PoolEntry, StoreEntry};

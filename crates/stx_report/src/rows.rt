@@ -1,7 +1,7 @@
 // The text of the rows that are there at the end, in byte order of their names.
 ghost use Rattle.std.specs.Prelude.{◌≡◌, ◌++◌, IfOk, OnOk, map, string_bytes};
 ghost use Rattle.stx_base.specs.Report as texts;
-ghost use Rattle.stx_report.specs.RowValues.{found_rows};
+ghost use Rattle.stx_report.specs.inner.RowValues.{found_rows};
 
 use crate::text::push_text;
 use std::alloc::Global;

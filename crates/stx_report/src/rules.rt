@@ -6,7 +6,7 @@ ghost use Rattle.stx_base.specs.Attributes.{attribute as attribute_of, attribute
 ghost use Rattle.stx_base.specs.Classes.{parents_of};
 ghost use Rattle.stx_base.specs.Lines as texts;
 ghost use Rattle.stx_base.specs.RulesText.{rules_text, method_decisions, decisions_text};
-ghost use Rattle.stx_report.specs.Decisions.{decision_line};
+ghost use Rattle.stx_report.specs.inner.Decisions.{decision_line};
 
 use crate::text::push_text;
 use std::alloc::Global;

@@ -8,7 +8,7 @@ use Rattle.atomic_table.specs.Seated.{TableId}
 use Rattle.stx_turn.specs.declared.view.View.{View}
 use Rattle.stx_turn.specs.declared.view.Ended.{Ended}
 use Rattle.stx_turn.specs.Histories.{StartsWith}
-use Rattle.stx_turn.specs.Rule.{IsHome, IsOut, NoOther, Kept}
+use Rattle.stx_turn.specs.inner.Rule.{IsHome, IsOut, NoOther, Kept}
 use Rattle.stx_turn.specs.Seats.{seat_view, AllJoined, Knew, IsWhole}
 use Rattle.stx_turn.proofs.Seats.{live_here}
 

@@ -4,8 +4,8 @@ use mathlib.Core.Option.{none}
 use Rattle.atomic_table.specs.Table.{State, Me, step, gives, put_back, rest, Allows}
 use Rattle.stx_turn.specs.declared.view.View.{View}
 use Rattle.stx_turn.specs.Histories.{made_by}
-use Rattle.stx_turn.specs.Rule.{IsHome, IsOut, Knows, Kept}
-use Rattle.stx_turn.specs.Steps.{published, leaving, Publishes, Leaves}
+use Rattle.stx_turn.specs.inner.Rule.{IsHome, IsOut, Knows, Kept}
+use Rattle.stx_turn.specs.inner.Steps.{published, leaving, Publishes, Leaves}
 use Rattle.stx_turn.proofs.Begins.{starts_whole, starts_more, made_by-other}
 use Rattle.stx_turn.proofs.Seats.{moved, has_turn, all_free}
 

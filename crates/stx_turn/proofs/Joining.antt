@@ -10,8 +10,8 @@ use Rattle.atomic_table.proofs.Lists.{at_set, set_else}
 use Rattle.stx_turn.specs.declared.view.View.{View}
 use Rattle.stx_turn.specs.declared.view.Ended.{Ended}
 use Rattle.stx_turn.specs.Histories.{StartsWith}
-use Rattle.stx_turn.specs.Rule.{spent, live_number, Knows, IsEnded, Apart, OnceEach, Kept}
-use Rattle.stx_turn.specs.Steps.{longer, joined}
+use Rattle.stx_turn.specs.inner.Rule.{spent, live_number, Knows, IsEnded, Apart, OnceEach, Kept}
+use Rattle.stx_turn.specs.inner.Steps.{longer, joined}
 use Rattle.stx_turn.proofs.Begins.{all_at, at_end}
 use Rattle.stx_turn.proofs.Seats.{live_here, same_numbers, stage_stays}
 

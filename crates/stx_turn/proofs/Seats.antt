@@ -8,7 +8,7 @@ use Rattle.atomic_table.specs.Table.{State}
 use Rattle.atomic_table.proofs.Lists.{at_set, set_again, at_map}
 use Rattle.stx_turn.specs.declared.view.View.{View}
 use Rattle.stx_turn.specs.Histories.{made_by, StartsWith}
-use Rattle.stx_turn.specs.Rule.{live_number, NoTurnBut, IsHome, IsOut, Knows, Apart, Kept}
+use Rattle.stx_turn.specs.inner.Rule.{live_number, NoTurnBut, IsHome, IsOut, Knows, Apart, Kept}
 use Rattle.stx_turn.proofs.Begins.{at_unmap}
 
 -- a live number is that of a view

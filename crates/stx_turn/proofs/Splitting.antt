@@ -7,8 +7,8 @@ use lib.ListN.{get_elem?}
 use Rattle.atomic_table.specs.Table.{State, Splits}
 use Rattle.atomic_table.proofs.Lists.{at_set, set_else, at_longer}
 use Rattle.stx_turn.specs.declared.view.View.{View}
-use Rattle.stx_turn.specs.Rule.{live_number, Knows, Apart, Kept}
-use Rattle.stx_turn.specs.Steps.{counting, newcomer}
+use Rattle.stx_turn.specs.inner.Rule.{live_number, Knows, Apart, Kept}
+use Rattle.stx_turn.specs.inner.Steps.{counting, newcomer}
 use Rattle.stx_turn.proofs.Begins.{at_end}
 use Rattle.stx_turn.proofs.Seats.{live_here, view_of, same_numbers, stage_stays}
 

@@ -5,7 +5,7 @@ use mathlib.Core.Option.{some, some-injective, some-ne-none}
 use lib.ListN.{get_elem?}
 use Rattle.atomic_table.specs.Table.{opening}
 use Rattle.stx_turn.specs.declared.view.View.{View}
-use Rattle.stx_turn.specs.Rule.{first_view, live_number, Knows, Kept}
+use Rattle.stx_turn.specs.inner.Rule.{first_view, live_number, Knows, Kept}
 use Rattle.stx_turn.proofs.Begins.{starts_whole}
 
 module _ {V E F : Type 0} (fixed : V → F) (entries : V → List E) (maker : E → ℕ) (legal : F → List E → Type 0) (facts : F) where

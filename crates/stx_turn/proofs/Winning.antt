@@ -9,8 +9,8 @@ use Rattle.atomic_table.specs.Table.{State, Me, step, keeps, takes, stepped, All
 use Rattle.atomic_table.proofs.Lists.{at_set}
 use Rattle.stx_turn.specs.declared.view.View.{View}
 use Rattle.stx_turn.specs.Histories.{made_by, StartsWith}
-use Rattle.stx_turn.specs.Rule.{IsHome, IsOut, Knows, Kept}
-use Rattle.stx_turn.specs.Steps.{winning, IsWon, Wins}
+use Rattle.stx_turn.specs.inner.Rule.{IsHome, IsOut, Knows, Kept}
+use Rattle.stx_turn.specs.inner.Steps.{winning, IsWon, Wins}
 use Rattle.stx_turn.proofs.Begins.{starts_whole, here_set}
 use Rattle.stx_turn.proofs.Seats.{unmoved, moved}
 

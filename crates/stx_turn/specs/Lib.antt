@@ -1,5 +1,3 @@
 pub mod Histories
-pub mod Rule
 pub mod Seats
-pub mod Steps
-pub mod TableSeats
+pub mod inner

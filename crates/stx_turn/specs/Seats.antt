@@ -2,8 +2,8 @@
 use Rattle.std.specs.Prelude.{◌≡◌, ℕ, ◌<◌, ◌≤◌, List, [], ◌∷◌, ◌++◌, Option, Some, Bool, false, All, Any}
 use Rattle.stx_turn.specs.declared.view.View.{View}
 use Rattle.stx_turn.specs.Histories.{made_by, StartsWith}
-use Rattle.stx_turn.specs.Rule.{NoOther}
-use Rattle.stx_turn.specs.Steps.{longer}
+use Rattle.stx_turn.specs.inner.Rule.{NoOther}
+use Rattle.stx_turn.specs.inner.Steps.{longer}
 pub use Rattle.atomic_table.specs.Seated.{TableId}
 pub use Rattle.stx_turn.specs.declared.view.Ended.{Ended}
 

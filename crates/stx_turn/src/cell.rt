@@ -50,7 +50,7 @@ pub struct Seat<V: Logged> {
 
 impl<V: Logged> Model for Seat<V> {
     ghost use Rattle.stx_turn.specs.Seats.{SeatView, seat_view};
-    ghost use Rattle.stx_turn.specs.TableSeats.{IsIdle};
+    ghost use Rattle.stx_turn.specs.inner.TableSeats.{IsIdle};
 
     ghost Value = { SeatView V.Entry V.Fixed };
 

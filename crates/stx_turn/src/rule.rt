@@ -1,5 +1,5 @@
 // The rule of the cell's table, and what each kind of step tells.
-ghost use Rattle.stx_turn.specs.Steps.{Wins, Publishes, Leaves, counting, newcomer, joined};
+ghost use Rattle.stx_turn.specs.inner.Steps.{Wins, Publishes, Leaves, counting, newcomer, joined};
 
 use crate::logged::Logged;
 use crate::view::View;
@@ -10,7 +10,7 @@ use std::snapshot::Snapshot;
 pub struct InTurns;
 
 impl<V: Logged> TableRule<Option<V>, View<V::Entry, V::Fixed>, Snapshot<V>> for InTurns {
-    ghost use Rattle.stx_turn.specs.Rule.{Kept, first_view};
+    ghost use Rattle.stx_turn.specs.inner.Rule.{Kept, first_view};
 
     ghost holds = { λ key. Kept V.fixed V.entries V.maker V.legal (V.fixed key.value) };
 
@@ -51,8 +51,8 @@ impl<E, F> Split<View<E, F>> for SplitOff {
 pub struct JoinIn;
 
 impl<E, F> Join<View<E, F>> for JoinIn {
-    ghost use Rattle.stx_turn.specs.Rule.{spent};
-    ghost use Rattle.stx_turn.specs.Steps.{joined};
+    ghost use Rattle.stx_turn.specs.inner.Rule.{spent};
+    ghost use Rattle.stx_turn.specs.inner.Steps.{joined};
 
     ghost both = { joined };
 

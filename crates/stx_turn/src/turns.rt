@@ -1,8 +1,8 @@
 // The steps of one turn, on the table.
 ghost use Rattle.std.specs.Prelude.{◌≡◌, ◌≢◌, ℕ, ◌+◌, ◌*◌, ◌%◌, ◌^◌, ◌<◌, ◌≤◌, List, [], ◌∷◌, ◌++◌, length, IfOk, OnErr, false};
 ghost use Rattle.stx_turn.specs.Histories.{made_by};
-ghost use Rattle.stx_turn.specs.Steps.{IsWon, published, leaving};
-ghost use Rattle.stx_turn.specs.TableSeats.{IsSeatOf, IsAtRest, IsOnTurn, Follows, HasTurn, IsCalled};
+ghost use Rattle.stx_turn.specs.inner.Steps.{IsWon, published, leaving};
+ghost use Rattle.stx_turn.specs.inner.TableSeats.{IsSeatOf, IsAtRest, IsOnTurn, Follows, HasTurn, IsCalled};
 
 use crate::logged::Logged;
 use crate::rule::{InTurns, Leave, Publish, Win};

@@ -1,5 +1,5 @@
 use Rattle.std.proofs.Common.{length, sym, ◌∙◌}
-use Rattle.stx_classes.specs.Flaws.{has_flaw}
+use Rattle.stx_classes.specs.inner.Flaws.{has_flaw}
 use Rattle.stx_classes.proofs.SearchLaws.{not_here}
 use Rattle.stx_classes.proofs.steps.first_with.Goals as goal
 

@@ -2,7 +2,7 @@
 use Rattle.std.proofs.Common.{◌≡◌, ◌-◌, length}
 use Rattle.std.specs.List.{find, range_with_len}
 use Rattle.stx_base.specs.Classes.{first_class}
-use Rattle.stx_classes.specs.Flaws.{has_flaw}
+use Rattle.stx_classes.specs.inner.Flaws.{has_flaw}
 use Rattle.stx_classes.proofs.steps.first_with.Given as goal
 
 abbrev pub invariant-loop-number : goal.invariant-loop-number

@@ -1,6 +1,6 @@
 use Rattle.std.proofs.Common.{◌∙◌}
 use Rattle.stx_base.specs.Weight.{callback_cost}
-use Rattle.stx_graph.specs.Costs.{cost_at}
+use Rattle.stx_graph.specs.inner.Costs.{cost_at}
 use Rattle.stx_graph.proofs.CostLaws.{summed_capped, all_turns}
 use Rattle.stx_graph.proofs.costs.callbacks_cost.Goals as goal
 

@@ -1,6 +1,6 @@
 use Rattle.std.proofs.Common.{◌≡◌, fold, take}
 use Rattle.stx_base.specs.Weight.{callback_cost}
-use Rattle.stx_graph.specs.Costs.{added, capped, cost_at}
+use Rattle.stx_graph.specs.inner.Costs.{added, capped, cost_at}
 use Rattle.stx_graph.proofs.costs.callbacks_cost.Given as goal
 
 abbrev pub invariant-loop-statement : goal.invariant-loop-statement

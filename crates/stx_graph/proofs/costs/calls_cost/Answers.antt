@@ -1,6 +1,6 @@
 use Rattle.std.proofs.Common.{◌∙◌, map, refl, ap}
 use Rattle.stx_base.specs.Weight.{no_cost, total}
-use Rattle.stx_graph.specs.Costs.{capped, cost_at}
+use Rattle.stx_graph.specs.inner.Costs.{capped, cost_at}
 use Rattle.stx_graph.proofs.CostLaws.{summed, all_turns, nothing_plus}
 use Rattle.stx_graph.proofs.costs.calls_cost.Goals as goal
 

@@ -1,6 +1,6 @@
 use Rattle.std.proofs.Common.{◌≡◌, fold, take}
 use Rattle.stx_base.specs.Weight.{no_cost}
-use Rattle.stx_graph.specs.Costs.{added, cost_at}
+use Rattle.stx_graph.specs.inner.Costs.{added, cost_at}
 use Rattle.stx_graph.proofs.costs.calls_cost.Given as goal
 
 abbrev pub invariant-loop-method : goal.invariant-loop-method

@@ -1,7 +1,7 @@
 use Rattle.std.proofs.Common.{◌∙◌, ◌==◌, Bool, map, filter, refl, sym, ap}
 use Rattle.stx_scenario.specs.declared.scenario.Listener.{Listener}
 use Rattle.stx_base.specs.Weight.{no_cost, total, listener_cost}
-use Rattle.stx_graph.specs.Costs.{capped, cost_at}
+use Rattle.stx_graph.specs.inner.Costs.{capped, cost_at}
 use Rattle.stx_graph.proofs.CostLaws.{summed_where, all_turns, capped_twice, nothing_plus}
 use Rattle.stx_graph.proofs.costs.event_cost.Goals as goal
 

@@ -1,6 +1,6 @@
 use Rattle.std.proofs.Common.{◌≡◌, ◌==◌, cond, fold, take}
 use Rattle.stx_base.specs.Weight.{no_cost, listener_cost}
-use Rattle.stx_graph.specs.Costs.{added, capped, cost_at}
+use Rattle.stx_graph.specs.inner.Costs.{added, capped, cost_at}
 use Rattle.stx_graph.proofs.costs.event_cost.Given as goal
 
 abbrev pub invariant-loop-listener : goal.invariant-loop-listener

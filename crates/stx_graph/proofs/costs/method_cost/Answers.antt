@@ -1,6 +1,6 @@
 use Rattle.std.proofs.Common.{◌∙◌, refl}
 use Rattle.stx_base.specs.Weight.{one}
-use Rattle.stx_graph.specs.Costs.{statement_at}
+use Rattle.stx_graph.specs.inner.Costs.{statement_at}
 use Rattle.stx_graph.proofs.CostLaws.{summed_capped, all_turns}
 use Rattle.stx_graph.proofs.costs.method_cost.Goals as goal
 

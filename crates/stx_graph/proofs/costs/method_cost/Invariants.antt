@@ -1,6 +1,6 @@
 use Rattle.std.proofs.Common.{◌≡◌, fold, take}
 use Rattle.stx_base.specs.Weight.{one}
-use Rattle.stx_graph.specs.Costs.{added, capped, statement_at}
+use Rattle.stx_graph.specs.inner.Costs.{added, capped, statement_at}
 use Rattle.stx_graph.proofs.costs.method_cost.Given as goal
 
 abbrev pub invariant-loop-statement : goal.invariant-loop-statement

@@ -1,6 +1,6 @@
 use Rattle.std.proofs.Common.{◌∙◌, ◌++◌, ap}
 use Rattle.stx_base.specs.Weight.{callbacks_cost}
-use Rattle.stx_graph.specs.Costs.{capped, cost_at}
+use Rattle.stx_graph.specs.inner.Costs.{capped, cost_at}
 use Rattle.stx_graph.proofs.CostLaws.{callbacks_more, nothing_plus}
 use Rattle.stx_graph.proofs.costs.sync_cost.Goals as goal
 

@@ -1,5 +1,5 @@
 use Rattle.std.proofs.Common.{sym, ◌∙◌}
-use Rattle.stx_graph.specs.Rows.{next_in}
+use Rattle.stx_graph.specs.inner.Rows.{next_in}
 use Rattle.stx_graph.proofs.GraphLaws.{none_more}
 use Rattle.stx_graph.proofs.cycles.first_on_cycle.Goals as goal
 

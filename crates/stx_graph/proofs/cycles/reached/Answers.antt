@@ -1,6 +1,6 @@
 use Rattle.std.proofs.Common.{◌<◌, List, [], length, fold, ap, ◌∙◌, arith}
 use Rattle.stx_scenario.specs.declared.numbers.MethodNo.{MethodNo}
-use Rattle.stx_graph.specs.Rows.{with_method}
+use Rattle.stx_graph.specs.inner.Rows.{with_method}
 use Rattle.stx_graph.proofs.SearchLaws.{search_starts, search_goes_on, search_ends, row_read}
 use Rattle.stx_graph.proofs.cycles.reached.Goals as goal
 

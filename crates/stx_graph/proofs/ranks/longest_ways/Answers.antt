@@ -1,5 +1,5 @@
 use Rattle.std.proofs.Common.{◌≤◌, List, ℕ, All, arith, ap, sym, ◌∙◌, map, replicate, subst}
-use Rattle.stx_graph.specs.Ranks.{raised}
+use Rattle.stx_graph.specs.inner.Rounds.{raised}
 use Rattle.stx_graph.proofs.RankLaws.{first_round, round_more, ranks_low}
 use Rattle.stx_graph.proofs.ranks.longest_ways.Goals as goal
 

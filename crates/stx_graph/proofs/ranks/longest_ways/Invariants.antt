@@ -1,4 +1,4 @@
-use Rattle.stx_graph.specs.Ranks.{AreLongest}
+use Rattle.stx_graph.specs.inner.Rounds.{AreLongest}
 use Rattle.stx_graph.proofs.ranks.longest_ways.Given as goal
 
 abbrev pub invariant-loop-round : goal.invariant-loop-round

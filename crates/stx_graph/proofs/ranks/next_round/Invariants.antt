@@ -1,5 +1,5 @@
 use Rattle.std.proofs.Common.{◌≡◌, map, take}
-use Rattle.stx_graph.specs.Ranks.{raised}
+use Rattle.stx_graph.specs.inner.Rounds.{raised}
 use Rattle.stx_graph.proofs.ranks.next_round.Given as goal
 
 abbrev pub invariant-loop-row : goal.invariant-loop-row

@@ -1,5 +1,5 @@
 use Rattle.std.proofs.Common.{◌∙◌}
-use Rattle.stx_graph.specs.Ranks.{rank_at}
+use Rattle.stx_graph.specs.inner.Rounds.{rank_at}
 use Rattle.stx_graph.proofs.CostLaws.{all_turns}
 use Rattle.stx_graph.proofs.RankLaws.{above_all}
 use Rattle.stx_graph.proofs.ranks.rank_above.Goals as goal

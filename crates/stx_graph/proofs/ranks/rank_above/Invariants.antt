@@ -1,5 +1,5 @@
 use Rattle.std.proofs.Common.{◌≡◌, ◌+◌, max, fold, take}
-use Rattle.stx_graph.specs.Ranks.{rank_at}
+use Rattle.stx_graph.specs.inner.Rounds.{rank_at}
 use Rattle.stx_graph.proofs.ranks.rank_above.Given as goal
 
 abbrev pub invariant-loop-method : goal.invariant-loop-method

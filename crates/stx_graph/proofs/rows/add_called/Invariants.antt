@@ -1,5 +1,5 @@
 use Rattle.std.proofs.Common.{◌≡◌, length, fold, take}
-use Rattle.stx_graph.specs.Rows.{with_called}
+use Rattle.stx_graph.specs.inner.Rows.{with_called}
 use Rattle.stx_graph.proofs.rows.add_called.Given as goal
 
 abbrev pub invariant-loop-statement : goal.invariant-loop-statement

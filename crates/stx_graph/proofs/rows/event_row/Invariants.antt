@@ -1,5 +1,5 @@
 use Rattle.std.proofs.Common.{◌≡◌, [], length, fold, take}
-use Rattle.stx_graph.specs.Rows.{with_listener}
+use Rattle.stx_graph.specs.inner.Rows.{with_listener}
 use Rattle.stx_graph.proofs.rows.event_row.Given as goal
 
 abbrev pub invariant-loop-listener : goal.invariant-loop-listener

@@ -1,5 +1,5 @@
 use Rattle.std.proofs.Common.{◌≡◌, [], length, fold, take}
-use Rattle.stx_graph.specs.Rows.{with_led}
+use Rattle.stx_graph.specs.inner.Rows.{with_led}
 use Rattle.stx_graph.proofs.rows.method_row.Given as goal
 
 abbrev pub invariant-loop-statement : goal.invariant-loop-statement

@@ -1,6 +1,6 @@
 use Rattle.std.proofs.Common.{length}
 use Rattle.stx_base.specs.Weight.{leads}
-use Rattle.stx_graph.specs.Rows.{AreRows}
+use Rattle.stx_graph.specs.inner.Rows.{AreRows}
 use Rattle.stx_graph.proofs.rows.method_rows.Given as goal
 
 abbrev pub invariant-loop-method : goal.invariant-loop-method

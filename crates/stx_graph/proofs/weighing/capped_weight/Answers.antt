@@ -2,7 +2,7 @@ use Rattle.std.proofs.Common.{◌<◌, List, length, map, get_or, ◌∙◌, ap,
 use Rattle.stx_scenario.specs.declared.numbers.MethodNo.{MethodNo}
 use Rattle.stx_base.specs.declared.cost.Cost.{Cost}
 use Rattle.stx_base.specs.Weight.{total, MethodsInRange}
-use Rattle.stx_graph.specs.Costs.{capped, cost_at}
+use Rattle.stx_graph.specs.inner.Costs.{capped, cost_at}
 use Rattle.stx_graph.proofs.RowLaws.{item_keeps}
 use Rattle.stx_graph.proofs.WeighLaws.{client_turn}
 use Rattle.stx_graph.proofs.weighing.capped_weight.Goals as goal

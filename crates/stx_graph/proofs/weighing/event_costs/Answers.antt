@@ -1,4 +1,4 @@
-use Rattle.stx_graph.specs.Costs.{cost_at}
+use Rattle.stx_graph.specs.inner.Costs.{cost_at}
 use Rattle.stx_graph.proofs.WeighLaws.{event_turn}
 use Rattle.stx_graph.proofs.weighing.event_costs.Goals as goal
 

@@ -1,6 +1,6 @@
 use Rattle.std.proofs.Common.{◌≡◌, map}
 use Rattle.std.specs.List.{range_with_len}
-use Rattle.stx_graph.specs.Costs.{capped, cost_at, event_cost}
+use Rattle.stx_graph.specs.inner.Costs.{capped, cost_at, event_cost}
 use Rattle.stx_graph.proofs.weighing.event_costs.Given as goal
 
 abbrev pub invariant-loop-event : goal.invariant-loop-event

@@ -1,6 +1,6 @@
 use Rattle.std.proofs.Common.{◌∙◌, map, replicate, ap}
 use Rattle.stx_base.specs.Weight.{body_cost, no_cost}
-use Rattle.stx_graph.specs.Costs.{capped, cost_at}
+use Rattle.stx_graph.specs.inner.Costs.{capped, cost_at}
 use Rattle.stx_graph.proofs.WeighLaws.{first_costs, costs_more}
 use Rattle.stx_graph.proofs.weighing.method_costs.Goals as goal
 

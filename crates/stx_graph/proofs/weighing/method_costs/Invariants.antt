@@ -1,4 +1,4 @@
-use Rattle.stx_graph.specs.Costs.{AreCosts}
+use Rattle.stx_graph.specs.inner.Costs.{AreCosts}
 use Rattle.stx_graph.proofs.weighing.method_costs.Given as goal
 
 abbrev pub invariant-loop-round : goal.invariant-loop-round

@@ -1,6 +1,6 @@
 use Rattle.std.proofs.Common.{◌≡◌, map, take}
 use Rattle.stx_base.specs.Weight.{body_cost}
-use Rattle.stx_graph.specs.Costs.{capped, cost_at}
+use Rattle.stx_graph.specs.inner.Costs.{capped, cost_at}
 use Rattle.stx_graph.proofs.weighing.next_round.Given as goal
 
 abbrev pub invariant-loop-method : goal.invariant-loop-method

@@ -1,7 +1,7 @@
 -- One client more, and none left.
 use Rattle.std.proofs.Common.{◌<◌, length, ◌++◌, ◌∙◌, ap, arith}
 use Rattle.stx_base.specs.Report.{clients_text, pool_places, store_places}
-use Rattle.stx_report.specs.Places.{client_words}
+use Rattle.stx_report.specs.inner.Places.{client_words}
 use Rattle.stx_report.proofs.PlaceLaws.{each_at}
 use Rattle.stx_report.proofs.TextLaws.{clients_step, clients_end}
 use Rattle.stx_report.proofs.clients.push_clients.Goals as goal

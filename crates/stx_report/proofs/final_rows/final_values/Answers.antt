@@ -2,8 +2,8 @@
 use Rattle.std.proofs.Common.{◌≡◌, length, get_or, sym, ◌∙◌, ap, arith}
 use Rattle.stx_base.specs.declared.history.StoreEntry.{StoreEntry}
 use Rattle.stx_base.specs.declared.history.StoreNote.{StoreNote}
-use Rattle.stx_report.specs.KeptWorks.{kept_by}
-use Rattle.stx_report.specs.RowValues.{committed_values}
+use Rattle.stx_report.specs.inner.KeptWorks.{kept_by}
+use Rattle.stx_report.specs.inner.RowValues.{committed_values}
 use Rattle.stx_report.proofs.ValueLaws.{values-more}
 use Rattle.stx_report.proofs.SliceLaws.{whole-write}
 use Rattle.stx_report.proofs.final_rows.final_values.Goals as goal

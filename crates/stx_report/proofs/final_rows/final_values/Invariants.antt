@@ -1,7 +1,7 @@
 -- The values after the commits so far.
 use Rattle.std.proofs.Common.{◌≡◌, take}
 use Rattle.stx_base.specs.Histories.{store_notes}
-use Rattle.stx_report.specs.RowValues.{values_from}
+use Rattle.stx_report.specs.inner.RowValues.{values_from}
 use Rattle.stx_base.proofs.RowLaws.{rows_so_far}
 use Rattle.stx_report.proofs.final_rows.final_values.Given as goal
 

@@ -1,7 +1,7 @@
 -- The values so far, and then the rest, are all values.
 use Rattle.std.proofs.Common.{◌≡◌, ◌++◌, drop}
 use Rattle.stx_base.specs.Alone.{first_rows}
-use Rattle.stx_report.specs.RowValues.{values_from}
+use Rattle.stx_report.specs.inner.RowValues.{values_from}
 use Rattle.stx_report.proofs.final_rows.first_values.Given as goal
 
 abbrev pub invariant-loop-row : goal.invariant-loop-row

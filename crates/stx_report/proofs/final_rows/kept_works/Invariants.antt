@@ -2,8 +2,8 @@
 use Rattle.std.proofs.Common.{◌≡◌, ℕ, take}
 use Rattle.stx_base.specs.Histories.{store_notes}
 use Rattle.stx_base.specs.Stores.{work}
-use Rattle.stx_report.specs.Kept.{kept_of}
-use Rattle.stx_report.specs.KeptWorks.{kept_by}
+use Rattle.stx_report.specs.inner.Kept.{kept_of}
+use Rattle.stx_report.specs.inner.KeptWorks.{kept_by}
 use Rattle.stx_report.proofs.final_rows.kept_works.Given as goal
 
 abbrev pub invariant-loop-entry : goal.invariant-loop-entry

@@ -1,6 +1,6 @@
 -- The values after the accesses so far.
 use Rattle.std.proofs.Common.{◌≡◌, take}
-use Rattle.stx_report.specs.RowValues.{all_written}
+use Rattle.stx_report.specs.inner.RowValues.{all_written}
 use Rattle.stx_report.proofs.final_rows.write_all.Given as goal
 
 abbrev pub invariant-loop-access : goal.invariant-loop-access

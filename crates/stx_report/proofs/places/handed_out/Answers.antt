@@ -1,6 +1,6 @@
 -- One entry more, and none left.
 use Rattle.std.proofs.Common.{◌≡◌, ◌+◌, length, get_or, ap, ◌∙◌, arith}
-use Rattle.stx_report.specs.Places.{placed}
+use Rattle.stx_report.specs.inner.Places.{placed}
 use Rattle.stx_report.proofs.SliceLaws.{whole-write}
 use Rattle.stx_report.proofs.PlaceLaws.{handed_none, handed_more, handed_all}
 use Rattle.stx_report.proofs.places.handed_out.Goals as goal

@@ -2,7 +2,7 @@
 use Rattle.std.proofs.Common.{◌++◌, ◌∙◌, ap, codes}
 use Rattle.stx_base.specs.Report.{journal_text, rows_text, by_name}
 use Rattle.stx_base.specs.Stores.{committed_rows}
-use Rattle.stx_report.specs.RowValues.{values_from, found_rows}
+use Rattle.stx_report.specs.inner.RowValues.{values_from, found_rows}
 use Rattle.stx_report.proofs.TextLaws.{printed_from}
 use Rattle.stx_report.proofs.report.print.Goals as goal
 

@@ -3,7 +3,7 @@ use Rattle.std.proofs.Common.{◌≡◌, map}
 use Rattle.std.specs.Iterator.Adapters.{zip_first, zip_second}
 use Rattle.std.specs.Slice.Iter.{iter_rest}
 use Rattle.stx_base.specs.Report.{by_name}
-use Rattle.stx_report.specs.RowValues.{found_rows}
+use Rattle.stx_report.specs.inner.RowValues.{found_rows}
 use Rattle.stx_report.proofs.TextLaws.{with_rows}
 use Rattle.stx_report.proofs.rows.sorted_rows.Given as goal
 

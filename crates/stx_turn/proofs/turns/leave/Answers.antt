@@ -1,5 +1,5 @@
 use Rattle.std.proofs.Common.{rules, ap, sym, ◌∙◌}
-use Rattle.stx_turn.specs.Steps.{leaving}
+use Rattle.stx_turn.specs.inner.Steps.{leaving}
 use Rattle.atomic_table.specs.Table.{rest}
 use Rattle.stx_turn.proofs.Ending.{leaves}
 use Rattle.stx_turn.proofs.turns.leave.Goals as goal

@@ -1,5 +1,5 @@
 use Rattle.std.proofs.Common.{rules, ap, sym, ◌∙◌, subst, []}
-use Rattle.stx_turn.specs.Steps.{published}
+use Rattle.stx_turn.specs.inner.Steps.{published}
 use Rattle.stx_turn.proofs.Ending.{publishes}
 use Rattle.stx_turn.proofs.turns.publish.Goals as goal
 

@@ -1,5 +1,5 @@
 use Rattle.std.proofs.Common.{◌≡◌, ◌≤◌, ◌%◌, ◌^◌}
-use Rattle.stx_turn.specs.TableSeats.{IsSeatOf}
+use Rattle.stx_turn.specs.inner.TableSeats.{IsSeatOf}
 use Rattle.stx_turn.proofs.turns.take_turn.Given as goal
 
 abbrev pub invariant-loop : goal.invariant-loop

@@ -1,7 +1,8 @@
 use Rattle.std.proofs.Common.{ℕ, ◌<◌, ◌≤◌, List, All, map, length, ap, ◌∙◌, subst, arith}
 use Rattle.std.specs.List.{range_with_len}
 use Rattle.stx_base.specs.Weight.{rank}
-use Rattle.stx_graph.specs.Ranks.{rank_at, IsFirst}
+use Rattle.stx_graph.specs.Ranks.{IsFirst}
+use Rattle.stx_graph.specs.inner.Rounds.{rank_at}
 use Rattle.stx_graph.specs.Graph.{Weighed}
 use Rattle.stx_base.proofs.WeightLaws.{rank_is, cost_is}
 use Rattle.stx_graph.proofs.GraphLaws.{due, short_from, short_acyclic, no_cycle, none_too_deep, ranks_are, light, heavy}

@@ -1,5 +1,5 @@
 use Rattle.std.proofs.Common.{◌≡◌, length, fold, take}
-use Rattle.stx_graph.specs.Rows.{with_method}
+use Rattle.stx_graph.specs.inner.Rows.{with_method}
 use Rattle.stx_graph.proofs.method_set.MethodSet.add_all.Given as goal
 
 abbrev pub invariant-loop-method : goal.invariant-loop-method

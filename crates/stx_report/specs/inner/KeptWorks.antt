@@ -2,7 +2,7 @@
 use Rattle.std.specs.Prelude.{ℕ, unwrap_or}
 use Rattle.std.specs.Ordering.{nat_cmp}
 use Rattle.std.specs.BTreeMap as tree
-use Rattle.stx_report.specs.Kept.{Kept, nothing}
+use Rattle.stx_report.specs.inner.Kept.{Kept, nothing}
 
 -- of a transaction that the map doesn't have, nothing
 abbrev pub kept_by : tree.BTreeMap ℕ Kept → ℕ → Kept

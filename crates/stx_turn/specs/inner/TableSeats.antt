@@ -5,7 +5,7 @@ use Rattle.atomic_table.specs.Table.{Me}
 use Rattle.atomic_table.specs.declared.shared.Seat.{Seat as Place}
 use Rattle.stx_turn.specs.declared.view.View.{View}
 use Rattle.stx_turn.specs.Histories.{made_by}
-use Rattle.stx_turn.specs.Steps.{published}
+use Rattle.stx_turn.specs.inner.Steps.{published}
 
 -- the seat of this number at this table
 pub record IsSeatOf {S V : Type 0} (cell : TableId) (id : ℕ) (place : Place S V) : Type 0 where

@@ -7,7 +7,7 @@ use Rattle.stx_base.specs.declared.history.Access.{Access}
 use Rattle.stx_base.specs.declared.history.StoreNote.{StoreNote}
 use Rattle.stx_base.specs.Alone.{RowMap}
 use Rattle.stx_base.specs.Stores.{is_busy}
-use Rattle.stx_report.specs.Kept.{Kept}
+use Rattle.stx_report.specs.inner.Kept.{Kept}
 
 -- the value of the row with this number and of those after it, one for each name
 abbrev pub values_from : RowMap → ℕ → List (List ℕ) → List (Option ℤ)
