@@ -16,4 +16,5 @@ pub mod PlainRows
 pub mod FlatRows
 pub mod ShopRow
 pub mod NoteRows
+pub mod ReportRows
 pub mod FreshLaw
