@@ -17,4 +17,6 @@ pub mod FlatRows
 pub mod ShopRow
 pub mod NoteRows
 pub mod ReportRows
+pub mod SerialRows
+pub mod SerialCounterexample
 pub mod FreshLaw

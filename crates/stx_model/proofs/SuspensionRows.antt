@@ -187,6 +187,15 @@ pub an_empty_pool_resumes_synchronisation_alone : Says fresh_in_an_empty_scope 0
 unfolding Says
 an_empty_pool_resumes_synchronisation_alone = refl
 
+abbrev marked_and_empty : Scenario
+marked_and_empty = record (plainly (method supports (Stmt.Register (sync_no 0) ∷ Stmt.Mark ∷ []) ∷ [])) { syncs = sync last_of_all ∷ [] }
+
+pub a_marked_empty_scope_tells_a_rollback : Says marked_and_empty 0 (
+    top 0 ∷ call m Propagation.Supports ∷ open_empty_sync ∷ register s ∷ mark
+    ∷ end_rollback ∷ before_completion s ∷ after_completion_rolled_back s ∷ leave m ∷ [])
+unfolding Says
+a_marked_empty_scope_tells_a_rollback = refl
+
 -- one empty scope in another
 abbrev empty_in_empty : Scenario
 empty_in_empty = record (plainly (
