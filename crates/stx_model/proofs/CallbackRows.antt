@@ -1,10 +1,11 @@
 -- Worked rows: synchronisations, their rounds, and what is thrown out of their callbacks.
-use Rattle.std.proofs.Common.{pos, [], ◌∷◌, Some, None, refl}
+use Rattle.std.proofs.Common.{pos, negsuc, [], ◌∷◌, Some, None, refl}
 use Rattle.stx_scenario.specs.declared.classes.TheConstants.{EXCEPTION, ERROR, RUNTIME_EXCEPTION, UNEXPECTED_ROLLBACK_EXCEPTION, CANNOT_ACQUIRE_LOCK_EXCEPTION}
 use Rattle.stx_scenario.specs.declared.scenario.Scenario.{Scenario}
 use Rattle.stx_scenario.specs.declared.scenario.Propagation.{Propagation}
 use Rattle.stx_scenario.specs.declared.scenario.Stmt.{Stmt}
 use Rattle.stx_base.specs.declared.history.Answer.{Answer}
+use Rattle.stx_base.specs.declared.line.Label.{Label}
 use Rattle.stx_model.proofs.Small.{m, n, a, sync_no, s, t, required, supports, requires_new, last_of_all, method, sync, plainly, Says}
 use Rattle.stx_model.proofs.Traces.{top, call, leave, leave_throws, throw, catch, swallow, rules_rollback_by, rules_keep_by, open_fresh_sync, open_join, open_empty_sync, end_commit, end_rollback, end_unexpected, mark_global, take, give, unbind, bind, suspend, resume, begin, write, commit, rollback, register, before_commit, before_completion, after_commit, after_completion_committed, after_completion_rolled_back}
 
@@ -27,6 +28,20 @@ pub lower_order_values_come_first_and_ties_as_registered : Says by_order_value 0
     ∷ give 1 ∷ leave m ∷ [])
 unfolding Says
 lower_order_values_come_first_and_ties_as_registered = refl
+
+-- order values may be negative
+pub negative_order_values_come_before_all_others : Says (record by_order_value {
+  methods = method required (Stmt.Register (sync_no 0) ∷ Stmt.Register (sync_no 1) ∷ Stmt.Register (sync_no 2) ∷ []) ∷ [];
+  syncs = sync (pos 0) ∷ sync (negsuc 0) ∷ sync (negsuc 4) ∷ [];
+}) 0 (
+    top 0 ∷ call m Propagation.Required ∷ take 1 ∷ begin 1 ∷ open_fresh_sync ∷ register s ∷ register t ∷ register (Label.Sync (sync_no 2))
+    ∷ end_commit ∷ before_commit (Label.Sync (sync_no 2)) ∷ before_commit t ∷ before_commit s
+    ∷ before_completion (Label.Sync (sync_no 2)) ∷ before_completion t ∷ before_completion s
+    ∷ commit 1 1 ∷ after_commit (Label.Sync (sync_no 2)) ∷ after_commit t ∷ after_commit s
+    ∷ after_completion_committed (Label.Sync (sync_no 2)) ∷ after_completion_committed t ∷ after_completion_committed s
+    ∷ give 1 ∷ leave m ∷ [])
+unfolding Says
+negative_order_values_come_before_all_others = refl
 
 -- a joined scope registers with the owner of the synchronisation
 abbrev registered_by_two : Scenario

@@ -12,7 +12,7 @@ use Rattle.stx_scenario.specs.declared.scenario.Stmt.{Stmt}
 use Rattle.stx_scenario.specs.BuiltIn.{built_in, class_below}
 use Rattle.stx_base.specs.declared.history.Answer.{Answer}
 use Rattle.stx_base.specs.declared.line.Line.{Line}
-use Rattle.stx_model.proofs.Small.{m, n, a, required, settings, method, plainly, Says}
+use Rattle.stx_model.proofs.Small.{m, n, a, required, settings, method, named, plainly, Says}
 use Rattle.stx_model.proofs.Traces.{top, call, call_plain, leave, leave_throws, throw, rules_rollback_by, rules_keep_by, open_fresh_sync, end_commit, end_rollback, take, take_empty, give, begin, read, write, erase, commit, rollback}
 
 -- ---- one method
@@ -20,10 +20,12 @@ use Rattle.stx_model.proofs.Traces.{top, call, call_plain, leave, leave_throws, 
 abbrev pub writes_and_reads : Scenario
 writes_and_reads = plainly (method required (Stmt.Write a (pos 5) ∷ Stmt.Read a ∷ []) ∷ [])
 
-pub a_transaction_writes_reads_and_commits : Says writes_and_reads 0 (
-    top 0 ∷ call m Propagation.Required ∷ take 1 ∷ begin 1 ∷ open_fresh_sync
+abbrev pub written_and_read : List Line
+written_and_read = top 0 ∷ call m Propagation.Required ∷ take 1 ∷ begin 1 ∷ open_fresh_sync
     ∷ write 1 a (pos 5) Answer.Done ∷ read 1 a (Answer.Found (pos 5))
-    ∷ end_commit ∷ commit 1 1 ∷ give 1 ∷ leave m ∷ [])
+    ∷ end_commit ∷ commit 1 1 ∷ give 1 ∷ leave m ∷ []
+
+pub a_transaction_writes_reads_and_commits : Says writes_and_reads 0 written_and_read
 unfolding Says
 a_transaction_writes_reads_and_commits = refl
 
@@ -191,26 +193,34 @@ unfolding Says
 the_second_client_finds_none = refl
 
 -- one client writes the row, and the other reads it
-abbrev rivals : Scenario
-rivals = record (plainly (method required (Stmt.Write a (pos 1) ∷ []) ∷ method required (Stmt.Read a ∷ []) ∷ [])) {
+abbrev pub rivals : Scenario
+rivals = record (plainly (method required (Stmt.Write a (pos 1) ∷ []) ∷ named (codes "n") (method required (Stmt.Read a ∷ [])) ∷ [])) {
   clients = (m ∷ []) ∷ (n ∷ []) ∷ [];
 }
 
-pub the_writer_commits : Says rivals 0 (
-    top 0 ∷ call m Propagation.Required ∷ take 1 ∷ begin 1 ∷ open_fresh_sync ∷ write 1 a (pos 1) Answer.Done
-    ∷ end_commit ∷ commit 1 1 ∷ give 1 ∷ leave m ∷ [])
+abbrev pub written : List Line
+written = top 0 ∷ call m Propagation.Required ∷ take 1 ∷ begin 1 ∷ open_fresh_sync ∷ write 1 a (pos 1) Answer.Done
+    ∷ end_commit ∷ commit 1 1 ∷ give 1 ∷ leave m ∷ []
+
+-- the reader beside the writer
+abbrev pub refused_beside : List Line
+refused_beside = top 0 ∷ call n Propagation.Required ∷ take 2 ∷ begin 2 ∷ open_fresh_sync
+    ∷ read 2 a (Answer.Busy 1) ∷ throw CANNOT_ACQUIRE_LOCK_EXCEPTION ∷ rules_rollback_by None
+    ∷ end_rollback ∷ rollback 2 ∷ give 2 ∷ leave_throws n CANNOT_ACQUIRE_LOCK_EXCEPTION ∷ []
+
+-- the reader after the writer
+abbrev pub read_after : List Line
+read_after = top 0 ∷ call n Propagation.Required ∷ take 1 ∷ begin 2 ∷ open_fresh_sync ∷ read 2 a (Answer.Found (pos 1))
+    ∷ end_commit ∷ commit 2 2 ∷ give 1 ∷ leave n ∷ []
+
+pub the_writer_commits : Says rivals 0 written
 unfolding Says
 the_writer_commits = refl
 
-pub a_reader_beside_the_writer_is_refused : Says rivals 1 (
-    top 0 ∷ call n Propagation.Required ∷ take 2 ∷ begin 2 ∷ open_fresh_sync
-    ∷ read 2 a (Answer.Busy 1) ∷ throw CANNOT_ACQUIRE_LOCK_EXCEPTION ∷ rules_rollback_by None
-    ∷ end_rollback ∷ rollback 2 ∷ give 2 ∷ leave_throws n CANNOT_ACQUIRE_LOCK_EXCEPTION ∷ [])
+pub a_reader_beside_the_writer_is_refused : Says rivals 1 refused_beside
 unfolding Says
 a_reader_beside_the_writer_is_refused = refl
 
-pub a_reader_after_the_writer_finds_the_value : Says rivals 1 (
-    top 0 ∷ call n Propagation.Required ∷ take 1 ∷ begin 2 ∷ open_fresh_sync ∷ read 2 a (Answer.Found (pos 1))
-    ∷ end_commit ∷ commit 2 2 ∷ give 1 ∷ leave n ∷ [])
+pub a_reader_after_the_writer_finds_the_value : Says rivals 1 read_after
 unfolding Says
 a_reader_after_the_writer_finds_the_value = refl

@@ -16,6 +16,9 @@ pub mod PlainRows
 pub mod FlatRows
 pub mod ShopRow
 pub mod NoteRows
+pub mod ReportRows
+pub mod SerialRows
+pub mod SerialCounterexample
 pub mod FreshLaw
 pub mod Apart
 pub mod TooLate

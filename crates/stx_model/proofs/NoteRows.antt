@@ -52,6 +52,16 @@ pub a_read_only_transaction_is_bound_as_one :
 unfolding Stands
 a_read_only_transaction_is_bound_as_one = refl
 
+-- a read-only method joins a transaction that isn't
+abbrev joined_by_a_reader : Scenario
+joined_by_a_reader = record reads_only { methods = method required (Stmt.Call n None ∷ []) ∷ reads_only.methods }
+
+pub a_joined_scope_leaves_the_transaction_as_it_is : Stands joined_by_a_reader
+    (top 0 ∷ call m Propagation.Required ∷ take 1 ∷ begin 1 ∷ open_fresh_sync ∷ call_read_only n Propagation.Required ∷ open_join ∷ [])
+    (Want.Access 1 (Access.Read a)) (with_transaction false (Some [])) (Some false)
+unfolding Stands
+a_joined_scope_leaves_the_transaction_as_it_is = refl
+
 -- a registration, a call of another transaction, and a local mark
 abbrev marked_and_registered : Scenario
 marked_and_registered = record (plainly (

@@ -1,6 +1,6 @@
 -- A worked row: a shop. An order is placed, an audit note is committed by itself, the stock is too low for a nested scope,
 -- and a mail goes out after the order has committed.
-use Rattle.std.proofs.Common.{pos, negsuc, true, false, [], ◌∷◌, Some, None, refl}
+use Rattle.std.proofs.Common.{pos, negsuc, true, false, List, [], ◌∷◌, Some, None, refl}
 use Rattle.std.specs.Prelude.{codes}
 use Rattle.stx_scenario.specs.declared.classes.TheConstants.{ILLEGAL_STATE_EXCEPTION}
 use Rattle.stx_scenario.specs.declared.numbers.RowNo.{RowNo}
@@ -12,6 +12,7 @@ use Rattle.stx_scenario.specs.declared.scenario.Phase.{Phase}
 use Rattle.stx_scenario.specs.declared.scenario.Stmt.{Stmt}
 use Rattle.stx_scenario.specs.BuiltIn.{built_in}
 use Rattle.stx_base.specs.declared.history.Answer.{Answer}
+use Rattle.stx_base.specs.declared.line.Line.{Line}
 use Rattle.stx_model.proofs.Small.{method_no, row_no, e, listener_no, l, required, requires_new, nested, settings, listener, Says}
 use Rattle.stx_model.proofs.Traces.{top, call, leave, leave_throws, throw, catch, rules_rollback_by, open_fresh_sync, open_point, end_commit, end_rollback, take, give, unbind, bind, begin, read, write, savepoint, back_to, release, commit, register, publish, listen, before_commit, before_completion, after_commit, after_completion_committed}
 
@@ -39,7 +40,7 @@ note = method_no 2
 abbrev mail : MethodNo
 mail = method_no 3
 
-abbrev shop : Scenario
+abbrev pub shop : Scenario
 shop = record {
   settings = settings 3 SyncMode.Always true;
   events = codes "placed" ∷ [];
@@ -69,8 +70,8 @@ shop = record {
   clients = (place ∷ []) ∷ [];
 }
 
-pub an_order_is_placed : Says shop 0 (
-    top 0 ∷ call place Propagation.Required ∷ take 1 ∷ begin 1 ∷ open_fresh_sync
+abbrev pub placed : List Line
+placed = top 0 ∷ call place Propagation.Required ∷ take 1 ∷ begin 1 ∷ open_fresh_sync
     ∷ call note Propagation.RequiresNew ∷ unbind 1 ∷ take 2 ∷ begin 2 ∷ open_fresh_sync
     ∷ read 2 audit Answer.Absent ∷ write 2 audit (pos 1) Answer.Done
     ∷ end_commit ∷ commit 2 1 ∷ give 2 ∷ bind 1 ∷ leave note
@@ -85,6 +86,8 @@ pub an_order_is_placed : Says shop 0 (
     ∷ call mail Propagation.RequiresNew ∷ unbind 1 ∷ take 2 ∷ begin 3 ∷ open_fresh_sync
     ∷ read 3 mails Answer.Absent ∷ write 3 mails (pos 1) Answer.Done
     ∷ end_commit ∷ commit 3 3 ∷ give 2 ∷ bind 1 ∷ leave mail
-    ∷ give 1 ∷ leave place ∷ [])
+    ∷ give 1 ∷ leave place ∷ []
+
+pub an_order_is_placed : Says shop 0 placed
 unfolding Says
 an_order_is_placed = refl

@@ -120,6 +120,9 @@ last_of_all = pos 2147483647
 abbrev pub method : Option TxAttr → List Stmt → Method
 method tx body = record { bean = record { 0 = 0 }; name = codes "m"; tx = tx; body = body }
 
+abbrev pub named : List ℕ → Method → Method
+named name method = record method { name = name }
+
 -- a synchronisation whose callbacks hold nothing
 abbrev pub sync : ℤ → SyncDecl
 sync order = record { name = codes "s"; order = order; before_commit = []; before_completion = []; after_commit = []; after_completion = [] }

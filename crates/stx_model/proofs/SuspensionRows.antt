@@ -8,7 +8,7 @@ use Rattle.stx_scenario.specs.declared.scenario.SyncMode.{SyncMode}
 use Rattle.stx_scenario.specs.declared.scenario.Stmt.{Stmt}
 use Rattle.stx_base.specs.declared.history.Answer.{Answer}
 use Rattle.stx_model.proofs.Small.{m, n, p, a, sync_no, s, t, required, supports, requires_new, not_supported, never, settings, last_of_all, method, sync, plainly, Says}
-use Rattle.stx_model.proofs.Traces.{top, call, call_plain, leave, leave_throws, throw, catch, rules_rollback_by, open_fresh_sync, open_fresh, open_join, open_empty_sync, open_empty, end_commit, end_rollback, end_unexpected, mark_global, take, take_empty, give, unbind, bind, suspend, resume, begin, write, auto_write, commit, rollback, register, before_commit, before_completion, after_commit, after_completion_committed, after_completion_rolled_back}
+use Rattle.stx_model.proofs.Traces.{top, call, call_plain, leave, leave_throws, throw, catch, rules_rollback_by, open_fresh_sync, open_fresh, open_join, open_empty_sync, open_empty, end_commit, end_rollback, end_unexpected, mark, mark_global, take, take_empty, give, unbind, bind, suspend, resume, begin, write, auto_write, commit, rollback, register, before_commit, before_completion, after_commit, after_completion_committed, after_completion_rolled_back}
 
 -- ---- an empty pool
 
@@ -44,6 +44,19 @@ pub an_empty_pool_resumes_the_registrations : Says registered_and_no_second_conn
     ∷ end_commit ∷ before_commit s ∷ before_completion s ∷ commit 1 1 ∷ after_commit s ∷ after_completion_committed s ∷ give 1 ∷ leave m ∷ [])
 unfolding Says
 an_empty_pool_resumes_the_registrations = refl
+
+-- the outer scope has marked itself before
+pub an_empty_pool_leaves_the_local_mark :
+    Says (record no_second_connection {
+      methods = method required (Stmt.Mark ∷ Stmt.Call n (Some CANNOT_CREATE_TRANSACTION_EXCEPTION) ∷ []) ∷ method requires_new [] ∷ [];
+    }) 0 (
+    top 0 ∷ call m Propagation.Required ∷ take 1 ∷ begin 1 ∷ open_fresh_sync ∷ mark
+    ∷ call n Propagation.RequiresNew ∷ unbind 1 ∷ take_empty ∷ bind 1
+    ∷ throw CANNOT_CREATE_TRANSACTION_EXCEPTION ∷ leave_throws n CANNOT_CREATE_TRANSACTION_EXCEPTION
+    ∷ catch CANNOT_CREATE_TRANSACTION_EXCEPTION
+    ∷ end_rollback ∷ rollback 1 ∷ give 1 ∷ leave m ∷ [])
+unfolding Says
+an_empty_pool_leaves_the_local_mark = refl
 
 -- three scopes, each of which wants a connection of its own
 abbrev no_second_of_three : Scenario
@@ -173,6 +186,15 @@ pub an_empty_pool_resumes_synchronisation_alone : Says fresh_in_an_empty_scope 0
     ∷ leave_throws m CANNOT_CREATE_TRANSACTION_EXCEPTION ∷ [])
 unfolding Says
 an_empty_pool_resumes_synchronisation_alone = refl
+
+abbrev marked_and_empty : Scenario
+marked_and_empty = record (plainly (method supports (Stmt.Register (sync_no 0) ∷ Stmt.Mark ∷ []) ∷ [])) { syncs = sync last_of_all ∷ [] }
+
+pub a_marked_empty_scope_tells_a_rollback : Says marked_and_empty 0 (
+    top 0 ∷ call m Propagation.Supports ∷ open_empty_sync ∷ register s ∷ mark
+    ∷ end_rollback ∷ before_completion s ∷ after_completion_rolled_back s ∷ leave m ∷ [])
+unfolding Says
+a_marked_empty_scope_tells_a_rollback = refl
 
 -- one empty scope in another
 abbrev empty_in_empty : Scenario

@@ -8,6 +8,9 @@ use Rattle.stx_model.proofs.PlainRows.{a_call_of_the_same_bean_is_not_intercepte
 use Rattle.stx_model.proofs.FlatRows.{a_transaction_writes_reads_and_commits}
 use Rattle.stx_model.proofs.NoteRows.{a_fresh_scope_first_wants_a_connection}
 use Rattle.stx_model.proofs.ShopRow.{an_order_is_placed}
+use Rattle.stx_model.proofs.ReportRows.{one_method_printed}
+use Rattle.stx_model.proofs.SerialRows.{kept_locks_serial}
+use Rattle.stx_model.proofs.SerialCounterexample.{store_refuses_it}
 use Rattle.stx_model.proofs.SerialLaw.{journal_serial}
 use Rattle.stx_model.proofs.laws.journal_is_serial.Goals as goal
 
