@@ -7,3 +7,4 @@ pub mod SerialLaw
 pub mod Small
 pub mod JoinRows
 pub mod FreshLaw
+pub mod Steady

@@ -5,7 +5,7 @@ use Rattle.stx_scenario.specs.declared.scenario.Scenario.{Scenario}
 use Rattle.stx_base.specs.declared.call.Want.{Want}
 use Rattle.stx_base.specs.declared.history.PoolNote.{PoolNote}
 use Rattle.stx_base.specs.declared.history.StoreNote.{StoreNote}
-use Rattle.stx_model.specs.Meanings.{State, state_of}
+use Rattle.stx_model.specs.Meanings.{State, Note, FromPool, FromStore, state_of}
 use Rattle.stx_base.specs.Pools.{contains, out_after, pool_proper}
 use Rattle.stx_model.specs.Script.{script}
 use Rattle.stx_base.specs.Stores.{begun, store_proper}
@@ -15,6 +15,10 @@ use Rattle.stx_base.specs.Stores.{begun, store_proper}
 -- these are the last of all
 abbrev pub IsEndOf : {N : Type 0} → List N → List N → Type 0
 IsEndOf {N = N} rest all = (first : List N) × (all ≡ first ++ rest)
+
+-- these are the first of all
+abbrev pub IsBeginningOf : {N : Type 0} → List N → List N → Type 0
+IsBeginningOf {N = N} first all = (rest : List N) × (all ≡ first ++ rest)
 
 -- how many notes aren't read yet
 abbrev pub count_unread : State → ℕ
@@ -28,6 +32,15 @@ notes_read S c pool store = length pool + length store - count_unread (state_of 
 pub record ReadsAll (S : Scenario) (c : ℕ) (pool : List PoolNote) (store : List StoreNote) : Type 0 where
   pub pool_read : (state_of (script S c pool store)).pool ≡ []
   pub store_read : (state_of (script S c pool store)).store ≡ []
+
+-- the notes with one more, of the pool or of the store
+abbrev pub pool_with : List PoolNote → Note → List PoolNote
+pool_with pool (FromPool n) = pool ++ n ∷ []
+pool_with pool (FromStore n) = pool
+
+abbrev pub store_with : List StoreNote → Note → List StoreNote
+store_with store (FromPool n) = store
+store_with store (FromStore n) = store ++ n ∷ []
 
 -- ---- fresh numbers
 
