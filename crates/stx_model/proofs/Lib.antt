@@ -8,3 +8,5 @@ pub mod Small
 pub mod JoinRows
 pub mod FreshLaw
 pub mod Steady
+pub mod SteadyPieces
+pub mod NotesLaw

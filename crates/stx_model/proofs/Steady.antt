@@ -9,8 +9,7 @@ use Rattle.stx_base.specs.declared.history.Answer.{Answer}
 use Rattle.stx_base.specs.declared.history.PoolNote.{PoolNote}
 use Rattle.stx_base.specs.declared.history.StoreNote.{StoreNote}
 use Rattle.stx_base.specs.declared.line.Line.{Line}
-use Rattle.stx_model.specs.Contexts.{Context}
-use Rattle.stx_model.specs.Meanings.{State, Result, Over, Stops, Breaks, state_of, Meaning, and_then, finally, say, with_context, Note, FromPool, FromStore, is_answer, unread, hear, answered, ask, on_take, on_begin, on_access}
+use Rattle.stx_model.specs.Meanings.{State, Result, Over, Stops, Breaks, state_of, Meaning, and_then, finally, say, Note, FromPool, FromStore, is_answer, unread, hear, answered, ask, on_take, on_begin, on_access}
 use Rattle.stx_model.specs.Reads.{IsEndOf, IsBeginningOf}
 
 -- ---- later states
@@ -29,8 +28,11 @@ end_of : {X : Type 0} (rest middle all : List X) → IsEndOf rest middle → IsE
 end_of rest middle all late early = (early.0 ++ late.0, early.1 ∙ ap (λ xs. early.0 ++ xs) late.1 ∙ sym (append_assoc early.0 late.0 rest))
 
 pub later_yet : (last middle first : State) → IsLater last middle → IsLater middle first → IsLater last first
-later_yet last middle first late early =
-    (beginning_of first.lines middle.lines last.lines early.0 late.0, end_of last.pool middle.pool first.pool late.1 early.1, end_of last.store middle.store first.store late.2 early.2)
+later_yet last middle first late early = (
+  beginning_of first.lines middle.lines last.lines early.0 late.0,
+  end_of last.pool middle.pool first.pool late.1 early.1,
+  end_of last.store middle.store first.store late.2 early.2,
+)
 
 pub said_later : (line : Line) (st : State) → IsLater (say line st) st
 said_later line st = ((line ∷ [], refl), ([], refl), ([], refl))
@@ -80,7 +82,8 @@ over_steady x st = (no_later st, λ p s. refl)
 pub breaks_steady : IsSteady Breaks
 breaks_steady st = (no_later st, λ p s. refl)
 
-pub either_steady : (b : Bool) (first second : Meaning) → IsSteady first → IsSteady second → IsSteady (λ st. elim b [ true ↦ first st | false ↦ second st ])
+pub either_steady : (b : Bool) (first second : Meaning) → IsSteady first → IsSteady second
+    → IsSteady (λ st. elim b [ true ↦ first st | false ↦ second st ])
 either_steady true first second steady steady_else = steady
 either_steady false first second steady steady_else = steady_else
 
@@ -89,7 +92,8 @@ pub from_later : (later st : State) (r : Result) (longer : Longer) → IsLater l
 from_later later st r longer is steady = (later_yet (state_of r) later st steady.0 is, steady.1)
 
 pub say_steady : (line : Line) (meaning : Meaning) → IsSteady meaning → IsSteady (λ st. meaning (say line st))
-say_steady line meaning steady st = from_later (say line st) st (meaning (say line st)) (λ p s. meaning (more p s (say line st))) (said_later line st) (steady (say line st))
+say_steady line meaning steady st =
+    from_later (say line st) st (meaning (say line st)) (λ p s. meaning (more p s (say line st))) (said_later line st) (steady (say line st))
 
 -- ---- changes of the state
 
@@ -97,7 +101,8 @@ pub record IsChange (change : State → State) : Type 0 where
   pub later : (st : State) → IsLater (change st) st
   pub same : (st : State) (p : List PoolNote) (s : List StoreNote) → change (more p s st) ≡ more p s (change st)
 
-goes_as : (r : Result) (longer other : Longer) → ((p : List PoolNote) (s : List StoreNote) → other p s ≡ longer p s) → GoesOn r longer → GoesOn r other
+goes_as : (r : Result) (longer other : Longer) → ((p : List PoolNote) (s : List StoreNote) → other p s ≡ longer p s)
+    → GoesOn r longer → GoesOn r other
 goes_as (Over x st) longer other same goes = λ p s. same p s ∙ goes p s
 goes_as (Breaks st) longer other same goes = λ p s. same p s ∙ goes p s
 goes_as (Stops w st) longer other same (inl waits) =
@@ -105,9 +110,11 @@ goes_as (Stops w st) longer other same (inl waits) =
 goes_as (Stops w st) longer other same (inr done) = inr (record { done = done.done; stays = λ p s. same p s ∙ done.stays p s })
 
 pub after_change : (change : State → State) (meaning : Meaning) → IsChange change → IsSteady meaning → IsSteady (λ st. meaning (change st))
-after_change change meaning is steady st =
-    (later_yet (state_of (meaning (change st))) (change st) st (steady (change st)).0 (is.later st),
-    goes_as (meaning (change st)) (λ p s. meaning (more p s (change st))) (λ p s. meaning (change (more p s st))) (λ p s. ap meaning (is.same st p s)) (steady (change st)).1)
+after_change change meaning is steady st = (
+  later_yet (state_of (meaning (change st))) (change st) st (steady (change st)).0 (is.later st),
+  goes_as (meaning (change st)) (λ p s. meaning (more p s (change st))) (λ p s. meaning (change (more p s st))) (λ p s. ap meaning (is.same st p s))
+      (steady (change st)).1,
+)
 
 pub over_change : (change : State → State) (x : Option ClassNo) → IsChange change → IsSteady (λ st. Over x (change st))
 over_change change x is = after_change change (Over x) is (over_steady x)
@@ -135,19 +142,25 @@ finally_asks w ask_next next st = by_note (unread w st)
     by_note None = refl
     by_note (Some n) = by_answer n (is_answer w n)
 
-pub finally_steady : (r : Result) (longer : Longer) (next : Option ClassNo → Meaning) (st : State) → Steady r longer st → ((x : Option ClassNo) → IsSteady (next x))
+finally_at : (r : Result) (longer : Longer) (next : Option ClassNo → Meaning) (st : State) → Steady r longer st
+    → ((x : Option ClassNo) → IsSteady (next x))
     → Steady (finally r next) (λ p s. finally (longer p s) next) st
-finally_steady (Over x middle) longer next st (later, goes) steady =
-    (later_yet (state_of (next x middle)) middle st (steady x middle).0 later,
-    goes_as (next x middle) (λ p s. next x (more p s middle)) (λ p s. finally (longer p s) next) (λ p s. ap (λ r. finally r next) (goes p s)) (steady x middle).1)
-finally_steady (Breaks middle) longer next st (later, goes) steady = (later, λ p s. ap (λ r. finally r next) (goes p s))
-finally_steady (Stops w middle) longer next st (later, inl waits) steady = (later, inl (record {
+finally_at (Over x middle) longer next st (later, goes) steady = (
+  later_yet (state_of (next x middle)) middle st (steady x middle).0 later,
+  goes_as (next x middle) (λ p s. next x (more p s middle)) (λ p s. finally (longer p s) next) (λ p s. ap (λ r. finally r next) (goes p s))
+      (steady x middle).1,
+)
+finally_at (Breaks middle) longer next st (later, goes) steady = (later, λ p s. ap (λ r. finally r next) (goes p s))
+finally_at (Stops w middle) longer next st (later, inl waits) steady = (
+  later,
+  inl (record {
     next = λ n heard. finally (waits.next n heard) next;
     reads = λ n heard. finally_reads (waits.next n heard) next heard (waits.reads n heard) (λ x after. (steady x after).0);
     none = waits.none;
     asks = λ p s. ap (λ r. finally r next) (waits.asks p s) ∙ finally_asks w waits.next next (more p s middle);
-  }))
-finally_steady (Stops w middle) longer next st (later, inr done) steady =
+  }),
+)
+finally_at (Stops w middle) longer next st (later, inr done) steady =
     (later, inr (record { done = done.done; stays = λ p s. ap (λ r. finally r next) (done.stays p s) }))
 
 -- goes on after a normal end alone
@@ -162,17 +175,25 @@ if_normal_is (Over (Some x) st) next = refl
 if_normal_is (Stops w st) next = refl
 if_normal_is (Breaks st) next = refl
 
-pub and_then_steady : (r : Result) (longer : Longer) (next : Meaning) (st : State) → Steady r longer st → IsSteady next
+and_then_at : (r : Result) (longer : Longer) (next : Meaning) (st : State) → Steady r longer st → IsSteady next
     → Steady (and_then r next) (λ p s. and_then (longer p s) next) st
 unfolding if_normal
-and_then_steady r longer next st steady steady_next =
-    let joined = finally_steady r longer (if_normal next) st steady by_end in
-    let goes = goes_as (finally r (if_normal next)) (λ p s. finally (longer p s) (if_normal next)) (λ p s. and_then (longer p s) next) (λ p s. sym (if_normal_is (longer p s) next)) joined.1 in
+and_then_at r longer next st steady steady_next =
+    let joined = finally_at r longer (if_normal next) st steady by_end in
+    let goes = goes_as (finally r (if_normal next)) (λ p s. finally (longer p s) (if_normal next)) (λ p s. and_then (longer p s) next)
+    (λ p s. sym (if_normal_is (longer p s) next)) joined.1 in
     subst (λ end. Steady end (λ p s. and_then (longer p s) next) st) (if_normal_is r next) (joined.0, goes)
   where
     by_end : (x : Option ClassNo) → IsSteady (if_normal next x)
     by_end None = steady_next
     by_end (Some x) = over_steady (Some x)
+
+pub finally_steady : (first : Meaning) (next : Option ClassNo → Meaning) → IsSteady first → ((x : Option ClassNo) → IsSteady (next x))
+    → IsSteady (λ st. finally (first st) next)
+finally_steady first next steady steady_next st = finally_at (first st) (λ p s. first (more p s st)) next st (steady st) steady_next
+
+pub and_then_steady : (first next : Meaning) → IsSteady first → IsSteady next → IsSteady (λ st. and_then (first st) next)
+and_then_steady first next steady steady_next st = and_then_at (first st) (λ p s. first (more p s st)) next st (steady st) steady_next
 
 -- ---- asking
 
@@ -187,7 +208,8 @@ pub data NextNote (w : Want) (st : State) : Type 0 where
   NoNote : unread w st ≡ None → NextNote w st
   OneNote : (n : Note) → unread w st ≡ Some n → IsNext w st n → NextNote w st
 
-next_of_pool : (w : Want) (st : State) (left : List PoolNote) → ((u : State) → unread w u ≡ option_map FromPool (slice_get u.pool 0)) → st.pool ≡ left → NextNote w st
+next_of_pool : (w : Want) (st : State) (left : List PoolNote) → ((u : State) → unread w u ≡ option_map FromPool (slice_get u.pool 0))
+    → st.pool ≡ left → NextNote w st
 next_of_pool w st [] from is = NoNote (from st ∙ ap (λ ns. option_map FromPool (slice_get ns 0)) is)
 next_of_pool w st (n ∷ ns) from is = OneNote (FromPool n) (from st ∙ ap (λ ms. option_map FromPool (slice_get ms 0)) is) (record {
   here = λ p s. from (more p s st) ∙ ap (λ ms. option_map FromPool (slice_get (ms ++ p) 0)) is;
@@ -196,7 +218,8 @@ next_of_pool w st (n ∷ ns) from is = OneNote (FromPool n) (from st ∙ ap (λ 
   later = ((_, refl), (n ∷ [], is ∙ ap (λ ms. n ∷ drop 1 ms) (sym is)), ([], refl));
 })
 
-next_of_store : (w : Want) (st : State) (left : List StoreNote) → ((u : State) → unread w u ≡ option_map FromStore (slice_get u.store 0)) → st.store ≡ left → NextNote w st
+next_of_store : (w : Want) (st : State) (left : List StoreNote) → ((u : State) → unread w u ≡ option_map FromStore (slice_get u.store 0))
+    → st.store ≡ left → NextNote w st
 next_of_store w st [] from is = NoNote (from st ∙ ap (λ ns. option_map FromStore (slice_get ns 0)) is)
 next_of_store w st (n ∷ ns) from is = OneNote (FromStore n) (from st ∙ ap (λ ms. option_map FromStore (slice_get ms 0)) is) (record {
   here = λ p s. from (more p s st) ∙ ap (λ ms. option_map FromStore (slice_get (ms ++ s) 0)) is;
@@ -220,6 +243,18 @@ pub unasked : (w : Want) (next : Note → Meaning) (st : State) → unread w st 
 unfolding ask
 unasked w next st none = ap (answered w next st) none
 
+pub ask_reads : (w : Want) (next : Note → Meaning) → ((n : Note) → Reads (next n)) → Reads (ask w next)
+ask_reads w next reads st = by_note (next_note w st)
+  where
+    by_answer : (n : Note) (b : Bool) → IsLater (hear n st) st → IsLater (state_of (elim b [ true ↦ next n (hear n st) | false ↦ Breaks st ])) st
+    by_answer n true later = later_yet (state_of (next n (hear n st))) (hear n st) st (reads n (hear n st)) later
+    by_answer n false later = no_later st
+
+    by_note : NextNote w st → IsLater (state_of (ask w next st)) st
+    by_note (NoNote none) = subst (λ r. IsLater (state_of r) st) (sym (unasked w next st none)) (no_later st)
+    by_note (OneNote n here following) =
+        subst (λ r. IsLater (state_of r) st) (sym (asked w next st n (is_answer w n) here refl)) (by_answer n (is_answer w n) following.later)
+
 -- what a call gives over more notes
 abbrev asking : Want → (Note → Meaning) → State → Longer
 asking w next st p s = ask w next (more p s st)
@@ -227,20 +262,25 @@ asking w next st p s = ask w next (more p s st)
 pub ask_steady : (w : Want) (next : Note → Meaning) → ((n : Note) → IsSteady (next n)) → IsSteady (ask w next)
 ask_steady w next steady st = by_note (next_note w st)
   where
-    by_answer : (n : Note) (b : Bool) → is_answer w n ≡ b → IsNext w st n → Steady (elim b [ true ↦ next n (hear n st) | false ↦ Breaks st ]) (asking w next st) st
-    by_answer n true is following =
-        (later_yet (state_of (next n (hear n st))) (hear n st) st (steady n (hear n st)).0 following.later,
-        goes_as (next n (hear n st)) (λ p s. next n (more p s (hear n st))) (asking w next st)
-        (λ p s. asked w next (more p s st) n true (following.here p s) is ∙ ap (next n) (following.heard p s)) (steady n (hear n st)).1)
+    by_answer : (n : Note) (b : Bool) → is_answer w n ≡ b → IsNext w st n
+        → Steady (elim b [ true ↦ next n (hear n st) | false ↦ Breaks st ]) (asking w next st) st
+    by_answer n true is following = (
+      later_yet (state_of (next n (hear n st))) (hear n st) st (steady n (hear n st)).0 following.later,
+      goes_as (next n (hear n st)) (λ p s. next n (more p s (hear n st))) (asking w next st)
+          (λ p s. asked w next (more p s st) n true (following.here p s) is ∙ ap (next n) (following.heard p s)) (steady n (hear n st)).1,
+    )
     by_answer n false is following = (no_later st, λ p s. asked w next (more p s st) n false (following.here p s) is)
 
     by_note : NextNote w st → Steady (ask w next st) (asking w next st) st
-    by_note (NoNote none) = subst (λ r. Steady r (asking w next st) st) (sym (unasked w next st none)) (no_later st, inl (record {
-      next = next;
-      reads = λ n after. (steady n after).0;
-      none = none;
-      asks = λ p s. refl;
-    }))
+    by_note (NoNote none) = subst (λ r. Steady r (asking w next st) st) (sym (unasked w next st none)) (
+      no_later st,
+      inl (record {
+        next = next;
+        reads = λ n after. (steady n after).0;
+        none = none;
+        asks = λ p s. refl;
+      }),
+    )
     by_note (OneNote n here following) =
         subst (λ r. Steady r (asking w next st) st) (sym (asked w next st n (is_answer w n) here refl)) (by_answer n (is_answer w n) refl following)
 

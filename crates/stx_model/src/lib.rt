@@ -4,7 +4,9 @@
 
 mod laws;
 
-pub use laws::{journal_is_serial, own_notes_fresh};
+pub use laws::{
+    answers_are_read, journal_is_serial, own_notes_fresh, reads_in_order, scripts_grow,
+};
 pub use stx_base::{
     Access, Answer, Call, ClientLines, Connection, Cost, Ending, Kind, Label, Line, Opening,
     Outcome, PoolAnswer, PoolCall, PoolEntry, PoolNote, Reply, Report, Round, Session, StoreAnswer,
