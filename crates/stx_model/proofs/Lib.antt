@@ -10,3 +10,6 @@ pub mod FreshLaw
 pub mod Steady
 pub mod SteadyPieces
 pub mod NotesLaw
+pub mod Callable
+pub mod Breaks
+pub mod BreaksPieces
