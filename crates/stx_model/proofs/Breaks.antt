@@ -1,6 +1,6 @@
 -- Where a piece of a script ends that breaks only at notes that don't answer: each word that joins pieces keeps this, and
 -- brings contexts of one kind to contexts of another.
-use Rattle.std.proofs.Common.{◌≡◌, Bool, true, false, List, Option, Some, None, refl, sym, subst}
+use Rattle.std.proofs.Common.{◌≡◌, Bool, true, false, Option, Some, None, refl, sym, subst}
 use Rattle.std.specs.Prelude.{⊤, ℕ}
 use Rattle.std.specs.Option.{is_some}
 use Rattle.std.proofs.lemmas.Bool.{false≢true}

@@ -1,20 +1,18 @@
 -- Each piece of a script breaks only at a note that doesn't answer, where what it calls is of lower rank: what a scope
 -- takes for granted at its end, its transaction and its registrations, is there still.
-use Rattle.std.proofs.Common.{◌≡◌, ◌≢◌, ◌+◌, ◌<◌, ◌≤◌, ◌==◌, ◌++◌, ◌∷◌, [], Bool, true, false, ℤ, ◌+ℤ◌, List, Option, Some, None, refl, sym, ap, ◌∙◌, subst, arith, eq-eqb, eqb-true}
+use Rattle.std.proofs.Common.{◌≡◌, ◌≢◌, ◌+◌, ◌<◌, ◌≤◌, ◌==◌, ◌∷◌, [], Bool, true, false, ℤ, ◌+ℤ◌, List, Option, Some, None, refl, sym, ◌∙◌, subst, arith, eq-eqb, eqb-true}
 use Rattle.std.specs.Prelude.{⊤, ℕ, zero, suc, int_lt, slice_get}
 use Rattle.std.specs.List.{AllByRecursion}
 use Rattle.std.specs.Option.{is_some}
-use Rattle.std.proofs.lemmas.Bool.{false≢true, false_from_ne_true}
+use Rattle.std.proofs.lemmas.Bool.{false≢true}
 use Rattle.stx_scenario.specs.declared.numbers.ClassNo.{ClassNo}
 use Rattle.stx_scenario.specs.declared.numbers.MethodNo.{MethodNo}
 use Rattle.stx_scenario.specs.declared.numbers.ListenerNo.{ListenerNo}
 use Rattle.stx_scenario.specs.declared.numbers.RowNo.{RowNo}
-use Rattle.stx_scenario.specs.declared.classes.TheConstants.{ILLEGAL_STATE_EXCEPTION, ARITHMETIC_EXCEPTION, CANNOT_ACQUIRE_LOCK_EXCEPTION, CANNOT_CREATE_TRANSACTION_EXCEPTION, CANNOT_GET_JDBC_CONNECTION_EXCEPTION, NO_TRANSACTION_EXCEPTION, UNEXPECTED_ROLLBACK_EXCEPTION}
+use Rattle.stx_scenario.specs.declared.classes.TheConstants.{ILLEGAL_STATE_EXCEPTION, ARITHMETIC_EXCEPTION, CANNOT_ACQUIRE_LOCK_EXCEPTION, CANNOT_GET_JDBC_CONNECTION_EXCEPTION, UNEXPECTED_ROLLBACK_EXCEPTION}
 use Rattle.stx_scenario.specs.declared.scenario.Scenario.{Scenario}
 use Rattle.stx_scenario.specs.declared.scenario.Listener.{Listener}
 use Rattle.stx_scenario.specs.declared.scenario.Propagation.{Propagation}
-use Rattle.stx_scenario.specs.declared.scenario.Rule.{Rule}
-use Rattle.stx_scenario.specs.declared.scenario.Settings.{Settings}
 use Rattle.stx_scenario.specs.declared.scenario.Stmt.{Stmt}
 use Rattle.stx_scenario.specs.declared.scenario.TxAttr.{TxAttr}
 use Rattle.stx_base.specs.declared.call.Want.{Want}
@@ -28,16 +26,16 @@ use Rattle.stx_base.specs.declared.manager.Ending.{Ending}
 use Rattle.stx_base.specs.declared.manager.Round.{Round}
 use Rattle.stx_base.specs.Attributes.{attribute}
 use Rattle.stx_base.specs.Weight.{body_of, rank}
-use Rattle.stx_model.specs.Contexts.{Context, Live, Registration, bare, is_active, is_live, marked_globally, ordered, ordered_labels, registered, with_global_mark, with_registration, without_syncs}
+use Rattle.stx_model.specs.Contexts.{Context, Live, Registration, is_active, is_live, marked_globally, ordered, ordered_labels, registered, with_global_mark, without_syncs}
 use Rattle.stx_model.specs.Opening.{opening, opening_in, opening_without}
-use Rattle.stx_model.specs.Ending.{Action, RoundBeforeCompletion, RoundAfterCommit, RoundAfterCompletion, CommitStore, RollbackStore, BackToPoint, ReleasePoint, MarkGlobally, ThrowUnexpected, GiveBack, Resumption, ending, unless_marked, is_marked, has_before_commit, completion, completion_after}
+use Rattle.stx_model.specs.Ending.{Action, RoundBeforeCompletion, RoundAfterCommit, RoundAfterCompletion, CommitStore, RollbackStore, BackToPoint, ReleasePoint, MarkGlobally, ThrowUnexpected, GiveBack, Resumption, ending, has_before_commit, completion, completion_after}
 use Rattle.stx_model.specs.Listeners.{Deed, Register, RunNow, Skip, deeds, runs_in}
-use Rattle.stx_model.specs.Meanings.{State, Result, Over, Stops, Breaks, Meaning, Note, is_answer, and_then, finally, say, with_context, with_local, ask, on_take, on_begin, on_access}
-use Rattle.stx_model.specs.Statements.{throws, concludes, catches, caught, RowAccess, unless_busy, access_row, nothing_more, value_of, is_value, needed, added, on_row, in_transaction, on_connection, connected, row_statement, marks, registers, register_sync, register_listener}
+use Rattle.stx_model.specs.Meanings.{State, Over, Meaning, Note, is_answer, finally, say, with_context, with_local, ask, on_take, on_begin, on_access}
+use Rattle.stx_model.specs.Statements.{throws, concludes, catches, caught, RowAccess, unless_busy, access_row, nothing_more, value_of, is_value, needed, added, on_row, in_transaction, on_connection, connected, row_statement, marks, registers, register_listener}
 use Rattle.stx_model.specs.Rounds.{Calls, Way, Proxied, Direct, sync_body, callback_line, swallows, round_of, callback_statement, callback, listens, listens_in, called_back, told, stopping_round, swallowing_round, last_round}
-use Rattle.stx_model.specs.Scopes.{say_each, say_unbind, say_bind, suspend, resume, resumed, suspended, older_if, Scope, leaves, live_in, later_or, started_syncs, fresh_context, rolls, ruled, is_set, acts, completes, ends, in_scope, within, begins, empty, opens, intercepted}
-use Rattle.stx_model.specs.Script.{deals, publishes, statement, body, unscoped, proxied, invoked, calls_below, invoke, tops, calls_of}
-use Rattle.stx_model.proofs.Callable.{listener_body, CallbackBelow, CallbacksBelow, LabelBelow, ListenerBelow, RegisteredBelow, DeedBelow, StatementBelow, StatementsBelow, MethodsBelow, Callable, label_raise, registered_raise, all_append, by_order_all}
+use Rattle.stx_model.specs.Scopes.{say_each, say_bind, suspend, resume, resumed, suspended, older_if, Scope, leaves, live_in, later_or, started_syncs, fresh_context, rolls, ruled, is_set, acts, completes, ends, in_scope, within, begins, empty, opens, intercepted}
+use Rattle.stx_model.specs.Script.{deals, statement, body, unscoped, proxied, invoked, calls_below, invoke, tops}
+use Rattle.stx_model.proofs.Callable.{listener_body, CallbackBelow, CallbacksBelow, LabelBelow, RegisteredBelow, DeedBelow, StatementBelow, StatementsBelow, MethodsBelow, Callable, label_raise, registered_raise, all_append, by_order_all}
 use Rattle.stx_model.proofs.Breaks.{EndsWell, Brings, finally_ends, and_then_ends, either_ends, live_in_ends, ask_brings, on_take_brings, on_begin_brings, on_access_brings, on_auto_brings}
 
 -- ---- pieces that leave the context as it is
@@ -440,7 +438,7 @@ module _ (S : Scenario) (calls : Calls) (k : ℕ) (calls_sound : AreSound S k ca
     unfolding begins
     begins_end owns older was (Some c) =
         let next : ℕ → Meaning = λ t begun. in_scope S calls (record { method = m; kind = Kind.Fresh; owns = owns; older = Some older; outer = begun.local })
-            a run (with_context (fresh_context c t a.read_only owns) begun) in
+        a run (with_context (fresh_context c t a.read_only owns) begun) in
         ask_brings (λ _. ⊤) (At S j live) Want.Begin (on_begin next) (on_begin_brings (λ _. ⊤) (At S j live) next (λ t begun _.
         in_scope_ends (record { method = m; kind = Kind.Fresh; owns = owns; older = Some older; outer = begun.local }) k j true live
         (record { inside = omega arith; outside = le; own = λ _. refl; older = was.1 }) a run sound (refl, was.0)

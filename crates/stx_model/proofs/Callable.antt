@@ -1,6 +1,6 @@
 -- What of a scenario keeps its scripts from breaking: each method, itself and by the callbacks that it leads to, calls
 -- only methods of lower rank, and callbacks hold only what they may.
-use Rattle.std.proofs.Common.{◌≡◌, ◌+◌, ◌<◌, ◌≤◌, ◌++◌, ◌∷◌, [], Bool, true, false, ℤ, List, Option, Some, None, map, arith}
+use Rattle.std.proofs.Common.{◌<◌, ◌≤◌, ◌++◌, ◌∷◌, [], Bool, true, false, ℤ, List, Option, Some, None, arith}
 use Rattle.std.specs.Prelude.{⊤, ℕ, slice_get, int_lt}
 use Rattle.std.specs.List.{AllByRecursion, fold}
 use Rattle.stx_scenario.specs.declared.numbers.MethodNo.{MethodNo}

@@ -13,3 +13,4 @@ pub mod NotesLaw
 pub mod Callable
 pub mod Breaks
 pub mod BreaksPieces
+pub mod BreaksLaw

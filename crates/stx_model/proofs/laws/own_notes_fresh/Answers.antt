@@ -1,4 +1,3 @@
-use Rattle.stx_model.proofs.BreaksPieces.{tops_end}
 use Rattle.stx_model.proofs.FreshLaw.{own_notes_fresh}
 use Rattle.stx_model.proofs.laws.own_notes_fresh.Goals as goal
 
