@@ -40,13 +40,15 @@ finally_ends middle after (Over x st) next ends brings = brings x st ends
 finally_ends middle after (Stops w st) next ends brings = ends
 finally_ends middle after (Breaks st) next ends brings = ends
 
-pub and_then_ends : (after : Context → Type 0) (r : Result) (next : Meaning) → EndsWell after r → Brings after after next → EndsWell after (and_then r next)
+pub and_then_ends : (after : Context → Type 0) (r : Result) (next : Meaning) → EndsWell after r → Brings after after next
+    → EndsWell after (and_then r next)
 and_then_ends after (Over None st) next ends brings = brings st ends
 and_then_ends after (Over (Some x) st) next ends brings = ends
 and_then_ends after (Stops w st) next ends brings = ends
 and_then_ends after (Breaks st) next ends brings = ends
 
-pub either_ends : (after : Context → Type 0) (b : Bool) (first second : Result) → (b ≡ true → EndsWell after first) → (b ≡ false → EndsWell after second)
+pub either_ends : (after : Context → Type 0) (b : Bool) (first second : Result) → (b ≡ true → EndsWell after first)
+    → (b ≡ false → EndsWell after second)
     → EndsWell after (elim b [ true ↦ first | false ↦ second ])
 either_ends after true first second ends ends_else = ends refl
 either_ends after false first second ends ends_else = ends_else refl
@@ -63,11 +65,13 @@ heard_context : (n : Note) (st : State) → (hear n st).context ≡ st.context
 heard_context (FromPool n) st = refl
 heard_context (FromStore n) st = refl
 
-pub ask_brings : (before after : Context → Type 0) (w : Want) (next : Note → Meaning) → ((n : Note) → is_answer w n ≡ true → Brings before after (next n))
+pub ask_brings : (before after : Context → Type 0) (w : Want) (next : Note → Meaning)
+    → ((n : Note) → is_answer w n ≡ true → Brings before after (next n))
     → Brings before after (ask w next)
 ask_brings before after w next brings st fits = by_note (next_note w st)
   where
-    by_answer : (n : Note) (b : Bool) → unread w st ≡ Some n → is_answer w n ≡ b → EndsWell after (elim b [ true ↦ next n (hear n st) | false ↦ Breaks st ])
+    by_answer : (n : Note) (b : Bool) → unread w st ≡ Some n → is_answer w n ≡ b
+        → EndsWell after (elim b [ true ↦ next n (hear n st) | false ↦ Breaks st ])
     by_answer n true here is = brings n is (hear n st) (subst before (sym (heard_context n st)) fits)
     by_answer n false here is = record { want = w; note = n; is_next = here; is_none = is }
 
@@ -78,13 +82,15 @@ ask_brings before after w next brings st fits = by_note (next_note w st)
 -- ---- what notes carry
 
 module _ (before after : Context → Type 0) where
-  pub on_take_brings : (next : Option ℕ → Meaning) → ((c : Option ℕ) → Brings before after (next c)) → (n : Note) → is_answer Want.Take n ≡ true → Brings before after (on_take next n)
+  pub on_take_brings : (next : Option ℕ → Meaning) → ((c : Option ℕ) → Brings before after (next c)) → (n : Note) → is_answer Want.Take n ≡ true
+      → Brings before after (on_take next n)
   on_take_brings next brings (FromPool (PoolNote.Taken c)) is = brings (Some c)
   on_take_brings next brings (FromPool PoolNote.Empty) is = brings None
   on_take_brings next brings (FromPool (PoolNote.Given c)) is = absurd (false≢true is)
   on_take_brings next brings (FromStore n) is = absurd (false≢true is)
 
-  pub on_begin_brings : (next : ℕ → Meaning) → ((t : ℕ) → Brings before after (next t)) → (n : Note) → is_answer Want.Begin n ≡ true → Brings before after (on_begin next n)
+  pub on_begin_brings : (next : ℕ → Meaning) → ((t : ℕ) → Brings before after (next t)) → (n : Note) → is_answer Want.Begin n ≡ true
+      → Brings before after (on_begin next n)
   on_begin_brings next brings (FromStore (StoreNote.Begin t)) is = brings t
   on_begin_brings next brings (FromStore n) is = absurd (false≢true is)
   on_begin_brings next brings (FromPool n) is = absurd (false≢true is)

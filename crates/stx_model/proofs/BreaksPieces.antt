@@ -36,6 +36,7 @@ use Rattle.stx_model.specs.Rounds.{Calls, Way, Proxied, Direct, sync_body, callb
 use Rattle.stx_model.specs.Scopes.{say_each, say_bind, suspend, resume, resumed, suspended, older_if, Scope, leaves, live_in, later_or, started_syncs, fresh_context, rolls, ruled, is_set, acts, completes, ends, in_scope, within, begins, empty, opens, intercepted}
 use Rattle.stx_model.specs.Script.{deals, statement, body, unscoped, proxied, invoked, calls_below, invoke, tops}
 use Rattle.stx_model.proofs.Callable.{listener_body, CallbackBelow, CallbacksBelow, LabelBelow, RegisteredBelow, DeedBelow, StatementBelow, StatementsBelow, MethodsBelow, Callable, label_raise, registered_raise, all_append, by_order_all}
+use Rattle.stx_model.proofs.SteadyPieces.{fresh_scope, in_fresh}
 use Rattle.stx_model.proofs.Breaks.{EndsWell, Brings, finally_ends, and_then_ends, either_ends, live_in_ends, ask_brings, on_take_brings, on_begin_brings, on_access_brings, on_auto_brings}
 
 -- ---- pieces that leave the context as it is
@@ -67,7 +68,8 @@ module _ (kind : Context → Type 0) where
       → Brings kind kind (on_access next n)
 
   module _ (at : RowAccess) (carries : Carries at) (ends_keep : (x : Option ClassNo) → Brings kind kind (at.ends x)) where
-    unless_busy_keeps : (next : Answer → Meaning) → ((r : Answer) → Brings kind kind (next r)) → (r : Answer) → Brings kind kind (unless_busy at next r)
+    unless_busy_keeps : (next : Answer → Meaning) → ((r : Answer) → Brings kind kind (next r))
+        → (r : Answer) → Brings kind kind (unless_busy at next r)
     unless_busy_keeps next keeps (Answer.Busy t) = ends_keep (Some CANNOT_ACQUIRE_LOCK_EXCEPTION)
     unless_busy_keeps next keeps (Answer.Found v) = keeps (Answer.Found v)
     unless_busy_keeps next keeps Answer.Absent = keeps Answer.Absent
@@ -212,7 +214,8 @@ completion_ready Kind.Empty Ending.Rollback older live out may opens = opens
 completion_ready Kind.Empty Ending.Unexpected older live out may opens = absurd may
 
 -- also where a callback of the before_commit round threw
-after_ready : (kind : Kind) (e : Ending) (y : Option ClassNo) (older : Option Context) (live out : Bool) → has_before_commit kind e ≡ true → Happens kind e
+after_ready : (kind : Kind) (e : Ending) (y : Option ClassNo) (older : Option Context) (live out : Bool)
+    → has_before_commit kind e ≡ true → Happens kind e
     → Opens kind older live out → Ready older live out (completion_after kind e y)
 after_ready kind e None older live out has may opens = completion_ready kind e older live out may opens
 after_ready Kind.Fresh Ending.Commit (Some x) older live out has may opens = completion_ready Kind.Fresh Ending.Rollback older live out tt opens
@@ -282,7 +285,8 @@ module _ (S : Scenario) (calls : Calls) (k : ℕ) (calls_sound : AreSound S k ca
   callback_statement_sound (Stmt.Need r n) below j live le st fits = row_keeps (At S j live) st.context.tx (Stmt.Need r n) tt st fits
   callback_statement_sound (Stmt.Throw x) below j live le st fits = fits
   callback_statement_sound (Stmt.Call m catch) below j live le st fits =
-      finally_ends (At S j live) (At S j live) (calls Proxied m st) (caught S catch) (calls_sound Proxied m below j live le st fits) (caught_keep (At S j live) S catch)
+      finally_ends (At S j live) (At S j live) (calls Proxied m st) (caught S catch) (calls_sound Proxied m below j live le st fits)
+      (caught_keep (At S j live) S catch)
   callback_statement_sound (Stmt.This m catch) below j live le st fits = absurd below
   callback_statement_sound Stmt.Mark below j live le st fits = absurd below
   callback_statement_sound (Stmt.Register s) below j live le st fits = absurd below
@@ -322,13 +326,16 @@ module _ (S : Scenario) (calls : Calls) (k : ℕ) (calls_sound : AreSound S k ca
       and_then_ends (At S j live) (told S calls round true r st) (stopping_round S calls round later)
       (told_sound round true r below.0 j live le st fits) (stopping_sound round later below.1 j live le)
 
-  swallowing_sound : (round : Round) (committed : Bool) (rs : List Registration) → RegisteredBelow S k rs → IsSound S k (swallowing_round S calls round committed rs)
+  swallowing_sound : (round : Round) (committed : Bool) (rs : List Registration) → RegisteredBelow S k rs
+      → IsSound S k (swallowing_round S calls round committed rs)
   unfolding swallowing_round
   swallowing_sound round committed [] below j live le st fits = fits
   swallowing_sound round committed (r ∷ later) below j live le st fits =
-      finally_ends (At S j live) (At S j live) (told S calls round committed r st) (λ x after. swallowing_round S calls round committed later (swallows x after))
+      finally_ends (At S j live) (At S j live) (told S calls round committed r st)
+      (λ x after. swallowing_round S calls round committed later (swallows x after))
       (told_sound round committed r below.0 j live le st fits)
-      (λ x after still. swallowing_sound round committed later below.1 j live le (swallows x after) (subst (At S j live) (sym (swallows_context x after)) still))
+      (λ x after still. swallowing_sound round committed later below.1 j live le (swallows x after)
+      (subst (At S j live) (sym (swallows_context x after)) still))
 
   -- a scope that owns the registrations has only such as call below its rank
   round_of_ends : (i : ℕ) (live owns : Bool) (round : List Registration → Meaning) → k ≤ i → (owns ≡ true → i ≡ k)
@@ -339,13 +346,15 @@ module _ (S : Scenario) (calls : Calls) (k : ℕ) (calls_sound : AreSound S k ca
       either_ends (At S i live) owns (round rs st) (Over None st)
       (λ is. sound rs (subst (λ n. RegisteredBelow S n rs) (own is) below) i live le st fits) (λ _. fits)
 
-  last_round_ends : (i : ℕ) (live owns committed : Bool) → k ≤ i → (owns ≡ true → i ≡ k) → Brings (At S i live) (At S i live) (last_round S calls owns committed)
+  last_round_ends : (i : ℕ) (live owns committed : Bool) → k ≤ i → (owns ≡ true → i ≡ k)
+      → Brings (At S i live) (At S i live) (last_round S calls owns committed)
   last_round_ends i live owns committed le own st fits =
       let rs = ordered (registered st.context.syncs) in
       let below = by_order_all (λ r. LabelBelow S i r.label) (λ r. r.order) (registered st.context.syncs) fits.1 in
       let after = with_context (without_syncs st.context) st in
       either_ends (At S i live) owns (swallowing_round S calls Round.AfterCompletion committed rs after) (Over None st)
-      (λ is. swallowing_sound Round.AfterCompletion committed rs (subst (λ n. RegisteredBelow S n rs) (own is) below) i live le after (fits.0, tt)) (λ _. fits)
+      (λ is. swallowing_sound Round.AfterCompletion committed rs (subst (λ n. RegisteredBelow S n rs) (own is) below) i live le after (fits.0, tt))
+      (λ _. fits)
 
   -- ---- completion
 
@@ -360,7 +369,8 @@ module _ (S : Scenario) (calls : Calls) (k : ℕ) (calls_sound : AreSound S k ca
         live_in_ends (At S j out) st.context.tx (λ tx. ask (w tx) next) st (fits.0 ∙ is)
         (λ tx. ask_brings (At S i live) (At S j out) (w tx) next (λ n _. brings n) st fits)
 
-    acts_end : (actions : List Action) (x : Option ClassNo) → Ready scope.older live out actions → Brings (At S i live) (At S j out) (acts S calls scope actions x)
+    acts_end : (actions : List Action) (x : Option ClassNo) → Ready scope.older live out actions
+        → Brings (At S i live) (At S j out) (acts S calls scope actions x)
     unfolding acts
     acts_end [] x ready st fits = (fits.0 ∙ ready, registered_raise S i j spans.outside (registered st.context.syncs) fits.1)
     acts_end (RoundBeforeCompletion ∷ rest) x ready st fits =
@@ -379,7 +389,8 @@ module _ (S : Scenario) (calls : Calls) (k : ℕ) (calls_sound : AreSound S k ca
     acts_end (RollbackStore ∷ rest) x ready st fits =
         calls_out st (λ tx. Want.Rollback tx.transaction) (λ _. acts S calls scope rest x) ready.0 fits (λ _. acts_end rest x ready.1)
     acts_end (BackToPoint ∷ rest) x ready st fits =
-        calls_out st (λ tx. Want.BackTo tx.transaction) (λ _ back. acts S calls scope rest x (with_context (with_global_mark false back.context) back)) ready.0 fits
+        calls_out st (λ tx. Want.BackTo tx.transaction) (λ _ back. acts S calls scope rest x
+        (with_context (with_global_mark false back.context) back)) ready.0 fits
         (λ _ back still. acts_end rest x ready.1 (with_context (with_global_mark false back.context) back) (at_marked S i live false back.context still))
     acts_end (ReleasePoint ∷ rest) x ready st fits =
         calls_out st (λ tx. Want.Release tx.transaction) (λ _. acts S calls scope rest x) ready.0 fits (λ _. acts_end rest x ready.1)
@@ -402,8 +413,10 @@ module _ (S : Scenario) (calls : Calls) (k : ℕ) (calls_sound : AreSound S k ca
     completes_end e x may opens st fits =
         let round = stopping_round S calls Round.BeforeCommit in
         either_ends (At S j out) (has_before_commit scope.kind e)
-        (finally (round_of scope.owns round st) (λ y. acts S calls scope (completion_after scope.kind e y) (later_or y x))) (acts S calls scope (completion scope.kind e) x st)
-        (λ has. finally_ends (At S i live) (At S j out) (round_of scope.owns round st) (λ y. acts S calls scope (completion_after scope.kind e y) (later_or y x))
+        (finally (round_of scope.owns round st) (λ y. acts S calls scope (completion_after scope.kind e y) (later_or y x)))
+        (acts S calls scope (completion scope.kind e) x st)
+        (λ has. finally_ends (At S i live) (At S j out) (round_of scope.owns round st)
+        (λ y. acts S calls scope (completion_after scope.kind e y) (later_or y x))
         (round_of_ends i live scope.owns round spans.inside spans.own (stopping_sound Round.BeforeCommit) st fits)
         (λ y. acts_end (completion_after scope.kind e y) (later_or y x) (after_ready scope.kind e y scope.older live out has may opens)))
         (λ _. acts_end (completion scope.kind e) x (completion_ready scope.kind e scope.older live out may opens) st fits)
@@ -418,7 +431,8 @@ module _ (S : Scenario) (calls : Calls) (k : ℕ) (calls_sound : AreSound S k ca
         let e = ending scope.kind rolled (is_set st.local) st.context in
         completes_end e (Some x) (happens scope.kind rolled (is_set st.local) st.context) opens (say (Line.End e) (ruled S a.rules (Some x) st)) fits
 
-    in_scope_ends : (a : TxAttr) (run : Meaning) → IsSound S k run → Opens scope.kind scope.older live out → Brings (At S i live) (At S j out) (in_scope S calls scope a run)
+    in_scope_ends : (a : TxAttr) (run : Meaning) → IsSound S k run → Opens scope.kind scope.older live out
+        → Brings (At S i live) (At S j out) (in_scope S calls scope a run)
     unfolding in_scope
     in_scope_ends a run sound opens st fits =
         let open_state = with_local (Some false) (say (Line.Opened scope.kind scope.owns) st) in
@@ -434,18 +448,19 @@ module _ (S : Scenario) (calls : Calls) (k : ℕ) (calls_sound : AreSound S k ca
         in_scope_ends (record { method = m; kind = kind; owns = false; older = None; outer = st.local }) j j live live
         (record { inside = le; outside = omega arith; own = λ is. absurd (false≢true is); older = tt }) a run sound opens st fits
 
-    begins_end : (owns : Bool) (older : Context) → At S j live older → (c : Option ℕ) → Brings (λ _. ⊤) (At S j live) (begins S calls m a run owns older c)
+    begins_end : (owns : Bool) (older : Context) → At S j live older → (c : Option ℕ)
+        → Brings (λ _. ⊤) (At S j live) (begins S calls m a run owns older c)
     unfolding begins
     begins_end owns older was (Some c) =
-        let next : ℕ → Meaning = λ t begun. in_scope S calls (record { method = m; kind = Kind.Fresh; owns = owns; older = Some older; outer = begun.local })
-        a run (with_context (fresh_context c t a.read_only owns) begun) in
+        let next = in_fresh S calls m a run owns older c in
         ask_brings (λ _. ⊤) (At S j live) Want.Begin (on_begin next) (on_begin_brings (λ _. ⊤) (At S j live) next (λ t begun _.
-        in_scope_ends (record { method = m; kind = Kind.Fresh; owns = owns; older = Some older; outer = begun.local }) k j true live
+        in_scope_ends (fresh_scope m owns older begun) k j true live
         (record { inside = omega arith; outside = le; own = λ _. refl; older = was.1 }) a run sound (refl, was.0)
         (with_context (fresh_context c t a.read_only owns) begun) (refl, none_started S k owns)))
     begins_end owns older was None = λ st any. subst (At S j live) (sym (resume_context older st)) was
 
-    empty_ends : (suspends owns : Bool) (st : State) → At S j live st.context → EndsWell (At S j live) (empty S calls m a run owns (older_if suspends st.context) (suspended suspends st))
+    empty_ends : (suspends owns : Bool) (st : State) → At S j live st.context
+        → EndsWell (At S j live) (empty S calls m a run owns (older_if suspends st.context) (suspended suspends st))
     empty_ends true owns st fits =
         in_scope_ends (record { method = m; kind = Kind.Empty; owns = owns; older = Some st.context; outer = (suspend st).local }) k j false live
         (record { inside = omega arith; outside = le; own = λ _. refl; older = fits.1 }) a run sound fits.0
@@ -484,10 +499,12 @@ module _ (S : Scenario) (calls : Calls) (k : ℕ) (calls_sound : AreSound S k ca
   unfolding deals
   deals_sound [] below j live le st fits = fits
   deals_sound (Register l ∷ later) below j live le st fits =
-      and_then_ends (At S j live) (register_listener S l st) (deals S calls later) (registers_sound S k _ below.0 j live le st fits) (deals_sound later below.1 j live le)
+      and_then_ends (At S j live) (register_listener S l st) (deals S calls later) (registers_sound S k _ below.0 j live le st fits)
+      (deals_sound later below.1 j live le)
   deals_sound (RunNow l ∷ later) below j live le st fits =
       let listener = slice_get S.listeners l.0 in
-      and_then_ends (At S j live) (listens S calls l listener st) (deals S calls later) (listens_sound l listener below.0 j live le st fits) (deals_sound later below.1 j live le)
+      and_then_ends (At S j live) (listens S calls l listener st) (deals S calls later) (listens_sound l listener below.0 j live le st fits)
+      (deals_sound later below.1 j live le)
   deals_sound (Skip l ∷ later) below j live le st fits = deals_sound later below.1 j live le (say (Line.Skip l) st) fits
 
   statement_sound : (s : Stmt) → StatementBelow S k s → IsSound S k (statement S calls s)
@@ -498,7 +515,8 @@ module _ (S : Scenario) (calls : Calls) (k : ℕ) (calls_sound : AreSound S k ca
       let ds = deeds S e (is_active st.context) (is_live st.context) in
       deals_sound ds (below (is_active st.context) (is_live st.context)) j live le (say (Line.Publish e) st) fits
   statement_sound (Stmt.This m catch) below j live le st fits =
-      finally_ends (At S j live) (At S j live) (calls Direct m st) (caught S catch) (calls_sound Direct m below j live le st fits) (caught_keep (At S j live) S catch)
+      finally_ends (At S j live) (At S j live) (calls Direct m st) (caught S catch) (calls_sound Direct m below j live le st fits)
+      (caught_keep (At S j live) S catch)
   statement_sound (Stmt.Call m catch) below j live le st fits = callback_statement_sound (Stmt.Call m catch) below j live le st fits
   statement_sound (Stmt.Read r) below j live le st fits = callback_statement_sound (Stmt.Read r) tt j live le st fits
   statement_sound (Stmt.Write r v) below j live le st fits = callback_statement_sound (Stmt.Write r v) tt j live le st fits

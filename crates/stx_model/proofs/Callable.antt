@@ -109,7 +109,8 @@ module _ {X : Type 0} (P : X → Type 0) (order : X → ℤ) where
   inserted_all [] x all new = (new, tt)
   inserted_all (y ∷ ys) x all new = by_order_of (int_lt (order x) (order y)) (inserted_all ys x all.1 new)
     where
-      by_order_of : (b : Bool) → AllByRecursion P (inserted order ys x) → AllByRecursion P (elim b [ true ↦ x ∷ y ∷ ys | false ↦ y ∷ inserted order ys x ])
+      by_order_of : (b : Bool) → AllByRecursion P (inserted order ys x)
+          → AllByRecursion P (elim b [ true ↦ x ∷ y ∷ ys | false ↦ y ∷ inserted order ys x ])
       by_order_of true later = (new, all)
       by_order_of false later = (all.0, later)
 

@@ -13,4 +13,5 @@ pub mod NotesLaw
 pub mod Callable
 pub mod Breaks
 pub mod BreaksPieces
+pub mod CallableLaw
 pub mod BreaksLaw

@@ -26,7 +26,7 @@ use Rattle.stx_model.specs.Contexts.{Context, Live, Registration, bare, is_activ
 use Rattle.stx_model.specs.Opening.{opening}
 use Rattle.stx_model.specs.Ending.{Action, RoundBeforeCompletion, RoundAfterCommit, RoundAfterCompletion, CommitStore, RollbackStore, BackToPoint, ReleasePoint, MarkGlobally, ThrowUnexpected, GiveBack, Resumption, ending, has_before_commit, completion, completion_after}
 use Rattle.stx_model.specs.Listeners.{Deed, Register, RunNow, Skip, deeds, runs_in}
-use Rattle.stx_model.specs.Meanings.{Over, Stops, Meaning, Note, finally, say, with_context, with_local, ask, on_take, on_begin, on_access}
+use Rattle.stx_model.specs.Meanings.{State, Over, Stops, Meaning, Note, finally, say, with_context, with_local, ask, on_take, on_begin, on_access}
 use Rattle.stx_model.specs.Statements.{throws, concludes, catches, caught, RowAccess, unless_busy, access_row, nothing_more, value_of, is_value, needed, added, on_row, in_transaction, on_connection, connected, row_statement, marks, registers, register_listener}
 use Rattle.stx_model.specs.Rounds.{Calls, Way, Proxied, Direct, sync_body, callback_line, swallows, round_of, callback_statement, callback, listens, listens_in, called_back, told, stopping_round, swallowing_round, last_round}
 use Rattle.stx_model.specs.Scopes.{say_each, say_unbind, say_bind, suspend, resume, resumed, suspended, older_if, Scope, leaves, live_in, later_or, started_syncs, fresh_context, rolls, ruled, is_set, acts, completes, ends, in_scope, within, begins, empty, opens, intercepted}
@@ -168,6 +168,16 @@ ruled_steady S rules (Some x) meaning steady = say_steady _ meaning steady
 
 abbrev pub AreSteady : Calls → Type 0
 AreSteady calls = (way : Way) (m : MethodNo) → IsSteady (calls way m)
+
+-- ---- fresh scopes
+
+abbrev pub fresh_scope : MethodNo → Bool → Context → State → Scope
+fresh_scope m owns older begun = record { method = m; kind = Kind.Fresh; owns = owns; older = Some older; outer = begun.local }
+
+-- what follows on a begin
+abbrev pub in_fresh : Scenario → Calls → MethodNo → TxAttr → Meaning → Bool → Context → ℕ → ℕ → Meaning
+in_fresh S calls m a run owns older c t begun =
+    in_scope S calls (fresh_scope m owns older begun) a run (with_context (fresh_context c t a.read_only owns) begun)
 
 module _ (S : Scenario) (calls : Calls) (calls_steady : AreSteady calls) where
   -- ---- callbacks and rounds
@@ -314,11 +324,9 @@ module _ (S : Scenario) (calls : Calls) (calls_steady : AreSteady calls) where
       → IsSteady (begins S calls m a run owns older c)
   unfolding begins
   begins_steady m a run steady owns older (Some c) =
-      let next : ℕ → Meaning = λ t begun. in_scope S calls (record { method = m; kind = Kind.Fresh; owns = owns; older = Some older; outer = begun.local })
-      a run (with_context (fresh_context c t a.read_only owns) begun) in
+      let next = in_fresh S calls m a run owns older c in
       ask_steady Want.Begin (on_begin next) (on_begin_steady next
-      (λ t begun. in_scope_steady (record { method = m; kind = Kind.Fresh; owns = owns; older = Some older; outer = begun.local })
-      a run steady (with_context (fresh_context c t a.read_only owns) begun)))
+      (λ t begun. in_scope_steady (fresh_scope m owns older begun) a run steady (with_context (fresh_context c t a.read_only owns) begun)))
   begins_steady m a run steady owns older None =
       let x = CANNOT_CREATE_TRANSACTION_EXCEPTION in
       after_change (resume older) (λ st. leaves m (Some x) (say (Line.Throw x) st)) (resume_change older)
