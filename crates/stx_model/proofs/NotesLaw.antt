@@ -9,7 +9,7 @@ use Rattle.stx_base.specs.declared.history.PoolNote.{PoolNote}
 use Rattle.stx_base.specs.declared.history.StoreNote.{StoreNote}
 use Rattle.stx_model.specs.Laws.{AnswersAreRead, ReadsInOrder, ScriptsGrow}
 use Rattle.stx_model.specs.Meanings.{State, Result, Over, Stops, Breaks, state_of, at_first, Note, FromPool, FromStore, is_answer, unread, hear}
-use Rattle.stx_model.specs.Reads.{IsEndOf, IsBeginningOf, ReadsAll, pool_with, store_with}
+use Rattle.stx_model.specs.Reads.{IsEndOf, StartsWith, ReadsAll, pool_with, store_with}
 use Rattle.stx_model.specs.Script.{calls_of, script}
 use Rattle.stx_model.proofs.Steady.{Longer, GoesOn, Waits, Steady, more, asked, ask_reads}
 use Rattle.stx_model.proofs.SteadyPieces.{tops_steady}
@@ -31,11 +31,11 @@ reads_in_order S c pool store = let later = (script_steady S c pool store).0 in 
 -- ---- growth
 
 grows : (r : Result) (longer : Longer) (p : List PoolNote) (s : List StoreNote) → GoesOn r longer
-    → IsBeginningOf (state_of r).lines (state_of (longer p s)).lines
+    → StartsWith (state_of (longer p s)).lines (state_of r).lines
 grows (Over x st) longer p s goes = ([], ap (λ r. (state_of r).lines) (goes p s) ∙ sym (append-nil st.lines))
 grows (Breaks st) longer p s goes = ([], ap (λ r. (state_of r).lines) (goes p s) ∙ sym (append-nil st.lines))
 grows (Stops w st) longer p s (inl waits) =
-    subst (λ r. IsBeginningOf st.lines (state_of r).lines) (sym (waits.asks p s)) (ask_reads w waits.next waits.reads (more p s st)).0
+    subst (λ r. StartsWith (state_of r).lines st.lines) (sym (waits.asks p s)) (ask_reads w waits.next waits.reads (more p s st)).0
 grows (Stops w st) longer p s (inr done) = ([], ap (λ r. (state_of r).lines) (done.stays p s) ∙ sym (append-nil st.lines))
 
 pub scripts_grow : ScriptsGrow

@@ -10,26 +10,26 @@ use Rattle.stx_base.specs.declared.history.PoolNote.{PoolNote}
 use Rattle.stx_base.specs.declared.history.StoreNote.{StoreNote}
 use Rattle.stx_base.specs.declared.line.Line.{Line}
 use Rattle.stx_model.specs.Meanings.{State, Result, Over, Stops, Breaks, state_of, Meaning, and_then, finally, say, Note, FromPool, FromStore, is_answer, unread, hear, answered, ask, on_take, on_begin, on_access}
-use Rattle.stx_model.specs.Reads.{IsEndOf, IsBeginningOf}
+use Rattle.stx_model.specs.Reads.{IsEndOf, StartsWith}
 
 -- ---- later states
 
 -- lines were added, and notes were read from the front
 abbrev pub IsLater : State → State → Type 0
-IsLater later st = IsBeginningOf st.lines later.lines × IsEndOf later.pool st.pool × IsEndOf later.store st.store
+IsLater later st = StartsWith later.lines st.lines × IsEndOf later.pool st.pool × IsEndOf later.store st.store
 
 pub no_later : (st : State) → IsLater st st
 no_later st = (([], sym (append-nil st.lines)), ([], refl), ([], refl))
 
-beginning_of : {X : Type 0} (first middle all : List X) → IsBeginningOf first middle → IsBeginningOf middle all → IsBeginningOf first all
-beginning_of first middle all early late = (early.0 ++ late.0, late.1 ∙ ap (λ xs. xs ++ late.0) early.1 ∙ append_assoc first early.0 late.0)
+start_of : {X : Type 0} (all middle first : List X) → StartsWith all middle → StartsWith middle first → StartsWith all first
+start_of all middle first late early = (early.0 ++ late.0, late.1 ∙ ap (λ xs. xs ++ late.0) early.1 ∙ append_assoc first early.0 late.0)
 
 end_of : {X : Type 0} (rest middle all : List X) → IsEndOf rest middle → IsEndOf middle all → IsEndOf rest all
 end_of rest middle all late early = (early.0 ++ late.0, early.1 ∙ ap (λ xs. early.0 ++ xs) late.1 ∙ sym (append_assoc early.0 late.0 rest))
 
 pub later_yet : (last middle first : State) → IsLater last middle → IsLater middle first → IsLater last first
 later_yet last middle first late early = (
-  beginning_of first.lines middle.lines last.lines early.0 late.0,
+  start_of last.lines middle.lines first.lines late.0 early.0,
   end_of last.pool middle.pool first.pool late.1 early.1,
   end_of last.store middle.store first.store late.2 early.2,
 )

@@ -13,7 +13,7 @@ use Rattle.stx_base.specs.Histories.{pool_notes_of, store_notes_of, total}
 use Rattle.stx_base.specs.Legal.{PoolLegal, StoreLegal}
 use Rattle.stx_model.specs.Meanings.{State, Stops, Note, is_answer, state_of}
 use Rattle.stx_base.specs.Pools.{out}
-use Rattle.stx_model.specs.Reads.{IsEndOf, IsBeginningOf, pool_with, store_with, ReadsAll, notes_read, TakesFresh, BeginsFresh, IsProperAfter}
+use Rattle.stx_model.specs.Reads.{IsEndOf, StartsWith, pool_with, store_with, ReadsAll, notes_read, TakesFresh, BeginsFresh, IsProperAfter}
 use Rattle.stx_model.specs.Script.{script}
 use Rattle.stx_base.specs.Serial.{Serial}
 use Rattle.stx_base.specs.Stores.{live}
@@ -37,7 +37,7 @@ EntriesWithin = (S : Scenario) (pool : List PoolEntry) (store : List StoreEntry)
 -- a script only grows with its notes: its lines over some notes are the first of its lines over these and more
 abbrev pub ScriptsGrow : Type 0
 ScriptsGrow = (S : Scenario) (c : ℕ) (pool more_pool : List PoolNote) (store more_store : List StoreNote)
-    → IsBeginningOf (state_of (script S c pool store)).lines (state_of (script S c (pool ++ more_pool) (store ++ more_store))).lines
+    → StartsWith (state_of (script S c (pool ++ more_pool) (store ++ more_store))).lines (state_of (script S c pool store)).lines
 
 -- what a script leaves unread is the end of the notes it was given, whatever its own end
 abbrev pub ReadsInOrder : Type 0

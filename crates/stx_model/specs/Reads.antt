@@ -12,13 +12,13 @@ use Rattle.stx_base.specs.Stores.{begun, store_proper}
 
 -- ---- reading
 
+-- these are the first of all
+abbrev pub StartsWith : {X : Type 0} → List X → List X → Type 0
+StartsWith {X = X} all first = (more : List X) × (all ≡ first ++ more)
+
 -- these are the last of all
 abbrev pub IsEndOf : {N : Type 0} → List N → List N → Type 0
 IsEndOf {N = N} rest all = (first : List N) × (all ≡ first ++ rest)
-
--- these are the first of all
-abbrev pub IsBeginningOf : {N : Type 0} → List N → List N → Type 0
-IsBeginningOf {N = N} first all = (rest : List N) × (all ≡ first ++ rest)
 
 -- how many notes aren't read yet
 abbrev pub count_unread : State → ℕ
