@@ -38,3 +38,11 @@ pub mod Rounding
 pub mod ScopeCosts
 pub mod ScriptCosts
 pub mod ReadsLaw
+pub mod Steady
+pub mod SteadyPieces
+pub mod NotesLaw
+pub mod Callable
+pub mod Breaks
+pub mod BreaksPieces
+pub mod CallableLaw
+pub mod BreaksLaw

@@ -8,6 +8,7 @@ use Rattle.std.specs.Ordering.{nat_cmp}
 use Rattle.std.specs.Fmt.{digits}
 use Rattle.std.specs.FinMap.{get-insert, get-empty}
 use Rattle.stx_scenario.specs.declared.scenario.Scenario.{Scenario}
+use Rattle.stx_base.specs.declared.facts.StoreFacts.{StoreFacts}
 use Rattle.stx_base.specs.declared.history.Access.{Access}
 use Rattle.stx_base.specs.declared.history.Answer.{Answer}
 use Rattle.stx_base.specs.declared.history.PoolNote.{PoolNote}
@@ -38,6 +39,10 @@ pool_by c note = record { client = c; note = note }
 abbrev pub by : ℕ → StoreNote → StoreEntry
 by c note = record { client = c; note = note }
 
+-- a store with these first values
+abbrev pub made_with : List ℤ → StoreFacts
+made_with values = record { values = values }
+
 -- the histories of a client that is alone
 abbrev pool_alone : List Line → List PoolEntry
 pool_alone lines = map (pool_by 0) (filter_map pool_note lines)
@@ -54,7 +59,7 @@ pub one_method_printed : printed writes_and_reads (alone written_and_read) ≡ c
 unfolding printed clients_text lines_text journal_text line_words digits
 one_method_printed = simp (get-insert {X = ℤ} nat_cmp_total, get-empty {X = ℤ} nat_cmp)
 
-pub one_method_legal : StoreLegal 1 [] (store_alone written_and_read)
+pub one_method_legal : StoreLegal 1 (made_with []) (store_alone written_and_read)
 unfolding store_reply store_proper
 one_method_legal = (
   record { client = lit< tt; proper = refl; reply = refl },
@@ -79,7 +84,7 @@ one_method_faithful = record {
   store_legal = one_method_legal;
   one_trace_each = refl;
   scripts = λ c below. subst (IsPlayedOut writes_and_reads (alone written_and_read)) (the_first c below) played_out;
-  serial = journal_serial 1 [] (store_alone written_and_read) one_method_legal;
+  serial = journal_serial 1 (made_with []) (store_alone written_and_read) one_method_legal;
   back = record { pool = refl; store = refl; calls = balanced };
 }
   where
@@ -129,7 +134,7 @@ side_by_side_legal = (
   ),
 )
 
-pub busy_rival_legal : StoreLegal 2 [] busy_rival
+pub busy_rival_legal : StoreLegal 2 (made_with []) busy_rival
 unfolding store_reply store_proper
 busy_rival_legal = (
   record { client = lit< tt; proper = refl; reply = refl },
@@ -185,7 +190,7 @@ in_turn_legal = (
   ),
 )
 
-pub later_rival_legal : StoreLegal 2 [] later_rival
+pub later_rival_legal : StoreLegal 2 (made_with []) later_rival
 unfolding store_reply store_proper
 later_rival_legal = (
   record { client = lit< tt; proper = refl; reply = refl },
@@ -216,7 +221,7 @@ kept_locks = by 0 (StoreNote.Begin 1) ∷ by 0 (StoreNote.Point 1)
     ∷ by 1 (StoreNote.Rollback 2)
     ∷ []
 
-pub kept_locks_legal : StoreLegal 2 [] kept_locks
+pub kept_locks_legal : StoreLegal 2 (made_with []) kept_locks
 unfolding store_reply store_proper
 kept_locks_legal = (
   record { client = lit< tt; proper = refl; reply = refl },

@@ -1,9 +1,9 @@
 -- Why locks are kept to the end: a store whose return to a savepoint frees the locks taken since is not serial.
-use Rattle.std.proofs.Common.{◌≡◌, ℕ, ℤ, pos, ◌<◌, ◌&&◌, ◌==◌, not, if◌then◌else◌, List, [], ◌∷◌, ◌++◌, Option, Some, None, refl, arith, IsTrue, filter, lit<}
-use Rattle.std.specs.Bool.{⊤}
+use Rattle.std.proofs.Common.{◌≡◌, ℕ, ℤ, pos, ◌<◌, ◌&&◌, ◌==◌, not, if◌then◌else◌, List, [], ◌∷◌, Option, Some, None, refl, arith, IsTrue, filter, lit<}
 use Rattle.std.specs.List.{fold}
 use Rattle.std.specs.FinMap.{get-insert}
 use Rattle.std.proofs.lemmas.Cmp.{nat_cmp_total}
+use Rattle.stx_base.specs.declared.facts.StoreFacts.{StoreFacts}
 use Rattle.stx_base.specs.declared.call.Want.{Want}
 use Rattle.stx_base.specs.declared.history.Access.{Access}
 use Rattle.stx_base.specs.declared.history.Answer.{Answer}
@@ -12,12 +12,12 @@ use Rattle.stx_base.specs.declared.history.StoreEntry.{StoreEntry}
 use Rattle.stx_base.specs.Alone.{RowMap, row_of, finds, after, found_alone, answers}
 use Rattle.stx_base.specs.Histories.{store_notes, store_notes_of}
 use Rattle.stx_base.specs.Pools.{contains}
-use Rattle.stx_base.specs.Stores.{live, is_busy, is_caller, least, busy_or, work, committed_rows, store_reply, store_want, store_proper}
-use Rattle.stx_base.specs.Legal.{StoreLegal}
+use Rattle.stx_base.specs.Stores.{live, is_busy, is_caller, smallest, busy_or, work, committed_rows, store_reply, store_want, store_proper}
+use Rattle.stx_base.specs.Legal.{LegalFrom, StoreLegal}
 use Rattle.stx_base.specs.Serial.{Serial}
 use Rattle.stx_model.proofs.SerialLaw.{journal_serial}
 use Rattle.stx_model.proofs.Small.{a}
-use Rattle.stx_model.proofs.ReportRows.{by}
+use Rattle.stx_model.proofs.ReportRows.{by, made_with}
 
 -- ---- the variant: a return frees what was locked since the savepoint
 
@@ -54,23 +54,19 @@ abbrev pub freeing_conflicts : List StoreNote → ℕ → Option ℕ → List �
 freeing_conflicts notes k caller = filter (λ t. not (is_caller caller t)) (freeing_holders notes k)
 
 -- the store's reply, by these holders
-unfoldable pub freeing_reply : List ℤ → List StoreEntry → Want → Option StoreNote
-freeing_reply values before (Want.Access t a) =
-    Some (StoreNote.Access t a (busy_or (least (freeing_conflicts (store_notes before) (row_of a) (Some t)))
-    (finds (after (committed_rows values before) (work (store_notes before) t)) a)))
-freeing_reply values before (Want.Auto a) =
-    Some (StoreNote.Auto a (busy_or (least (freeing_conflicts (store_notes before) (row_of a) None)) (finds (committed_rows values before) a)))
-freeing_reply values before want = store_reply values before want
+unfoldable pub freeing_reply : StoreFacts → List StoreEntry → Want → Option StoreNote
+freeing_reply facts before (Want.Access t a) =
+    Some (StoreNote.Access t a (busy_or (smallest (freeing_conflicts (store_notes before) (row_of a) (Some t)))
+    (finds (after (committed_rows facts.values before) (work (store_notes before) t)) a)))
+freeing_reply facts before (Want.Auto a) =
+    Some (StoreNote.Auto a (busy_or (smallest (freeing_conflicts (store_notes before) (row_of a) None)) (finds (committed_rows facts.values before) a)))
+freeing_reply facts before want = store_reply facts before want
 
 -- legal histories by this reply
-pub record FreeingFits (clients : ℕ) (values : List ℤ) (before : List StoreEntry) (entry : StoreEntry) : Type 0 where
+pub record FreeingFits (clients : ℕ) (facts : StoreFacts) (before : List StoreEntry) (entry : StoreEntry) : Type 0 where
   pub client : entry.client < clients
   pub proper : IsTrue (store_proper (store_notes_of before entry.client) (store_want entry.note))
-  pub reply : freeing_reply values before (store_want entry.note) ≡ Some entry.note
-
-abbrev pub FreeingLegalFrom : ℕ → List ℤ → List StoreEntry → List StoreEntry → Type 0
-FreeingLegalFrom clients values before [] = ⊤
-FreeingLegalFrom clients values before (e ∷ es) = FreeingFits clients values before e × FreeingLegalFrom clients values (before ++ e ∷ []) es
+  pub reply : freeing_reply facts before (store_want entry.note) ≡ Some entry.note
 
 -- ---- a history that it allows: a transaction reads a row twice, and another's write comes between
 
@@ -84,7 +80,7 @@ read_twice = by 0 (StoreNote.Begin 1) ∷ by 0 (StoreNote.Point 1)
     ∷ by 0 (StoreNote.Commit 1 2)
     ∷ []
 
-pub read_twice_fits : FreeingLegalFrom 2 (pos 7 ∷ []) [] read_twice
+pub read_twice_fits : LegalFrom (FreeingFits 2 (made_with (pos 7 ∷ []))) [] read_twice
 unfolding freeing_reply store_reply store_proper
 read_twice_fits = (
   record { client = lit< tt; proper = refl; reply = refl },
@@ -116,14 +112,14 @@ never_alone rows same = two_values _ same
     two_values : (x : Answer) → x ∷ x ∷ [] ≡ Answer.Found (pos 7) ∷ Answer.Found (pos 9) ∷ [] → ⊥
     two_values x e = grind arith
 
-pub read_twice_not_serial : Serial (pos 7 ∷ []) read_twice → ⊥
+pub read_twice_not_serial : Serial (made_with (pos 7 ∷ [])) read_twice → ⊥
 read_twice_not_serial serial = never_alone _ (serial 1 _ refl)
 
 -- so the variant breaks the law
 pub freeing_locks_breaks_the_law :
-    ((clients : ℕ) (values : List ℤ) (history : List StoreEntry) → FreeingLegalFrom clients values [] history → Serial values history) → ⊥
-freeing_locks_breaks_the_law law = read_twice_not_serial (law 2 (pos 7 ∷ []) read_twice read_twice_fits)
+    ((clients : ℕ) (facts : StoreFacts) (history : List StoreEntry) → LegalFrom (FreeingFits clients facts) [] history → Serial facts history) → ⊥
+freeing_locks_breaks_the_law law = read_twice_not_serial (law 2 (made_with (pos 7 ∷ [])) read_twice read_twice_fits)
 
 -- and the store doesn't allow that history
-pub store_refuses_it : StoreLegal 2 (pos 7 ∷ []) read_twice → ⊥
-store_refuses_it legal = read_twice_not_serial (journal_serial 2 (pos 7 ∷ []) read_twice legal)
+pub store_refuses_it : StoreLegal 2 (made_with (pos 7 ∷ [])) read_twice → ⊥
+store_refuses_it legal = read_twice_not_serial (journal_serial 2 (made_with (pos 7 ∷ [])) read_twice legal)

@@ -13,7 +13,7 @@ use Rattle.stx_base.specs.Legal.{StoreLegal}
 use Rattle.stx_base.specs.Serial.{Serial}
 use Rattle.stx_model.proofs.SerialLaw.{journal_serial}
 use Rattle.stx_model.proofs.Small.{a, k}
-use Rattle.stx_model.proofs.ReportRows.{by, kept_locks}
+use Rattle.stx_model.proofs.ReportRows.{by, made_with, kept_locks}
 
 -- ---- a row is written after a savepoint, and the write is undone; a rival is refused, and rolled back
 
@@ -33,7 +33,7 @@ undoer_alone : found_alone (first_rows []) undoer.work ≡ Answer.Done ∷ Answe
 undoer_alone = simp (get-empty {X = ℤ} nat_cmp)
 
 -- serial as it computes
-pub kept_locks_serial : Serial [] kept_locks
+pub kept_locks_serial : Serial (made_with []) kept_locks
 kept_locks_serial zero j at = subst (λ (x : Transaction). found_alone (first_rows []) x.work ≡ answers x.work) (the_one undoer at) undoer_alone
   where
     the_one : (x : Transaction) → Some x ≡ Some j → x ≡ j
@@ -62,7 +62,7 @@ rival = by 0 (StoreNote.Begin 1) ∷ by 1 (StoreNote.Begin 2)
     ∷ by 1 (StoreNote.Auto (Access.Read a) (Answer.Found (pos 5)))
     ∷ []
 
-rival_legal : StoreLegal 2 (pos 7 ∷ pos 8 ∷ []) rival
+rival_legal : StoreLegal 2 (made_with (pos 7 ∷ pos 8 ∷ [])) rival
 unfolding store_reply store_proper
 rival_legal = (
   record { client = lit< tt; proper = refl; reply = refl },
@@ -131,5 +131,5 @@ survivor_alone :
     found_alone (first_rows (pos 7 ∷ pos 8 ∷ [])) survivor.work ≡ Answer.Done ∷ Answer.Done ∷ Answer.Found (pos 8) ∷ Answer.Found (pos 5) ∷ []
 survivor_alone = simp (get-insert {X = ℤ} nat_cmp_total)
 
-pub rival_serial : Serial (pos 7 ∷ pos 8 ∷ []) rival
-rival_serial = journal_serial 2 (pos 7 ∷ pos 8 ∷ []) rival rival_legal
+pub rival_serial : Serial (made_with (pos 7 ∷ pos 8 ∷ [])) rival
+rival_serial = journal_serial 2 (made_with (pos 7 ∷ pos 8 ∷ [])) rival rival_legal

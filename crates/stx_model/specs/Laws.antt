@@ -1,5 +1,5 @@
 -- The laws that public functions carry.
-use Rattle.std.specs.Prelude.{◌≡◌, ℕ, ◌+◌, ◌*◌, ◌<◌, ◌≤◌, List, [], map, length, Some}
+use Rattle.std.specs.Prelude.{◌≡◌, ℕ, ◌+◌, ◌*◌, ◌<◌, ◌≤◌, List, [], ◌++◌, map, length, true, Some}
 use Rattle.stx_scenario.specs.declared.scenario.Scenario.{Scenario}
 use Rattle.stx_base.specs.declared.facts.StoreFacts.{StoreFacts}
 use Rattle.stx_base.specs.declared.call.Want.{Want}
@@ -13,12 +13,15 @@ use Rattle.stx_model.specs.Built.{IsBuilt}
 use Rattle.stx_base.specs.Limits.{most_weight, notes_a_unit}
 use Rattle.stx_base.specs.Histories.{pool_notes_of, store_notes_of, sum_below}
 use Rattle.stx_base.specs.Legal.{PoolLegal, StoreLegal}
-use Rattle.stx_model.specs.Meanings.{State, Stops, state_of}
+use Rattle.stx_base.specs.declared.history.Note.{Note}
+use Rattle.stx_base.specs.Notes.{is_answer}
+use Rattle.stx_model.specs.Meanings.{State, Stops, Breaks, state_of}
 use Rattle.stx_base.specs.Pools.{out}
-use Rattle.stx_model.specs.Reads.{IsEndOf, ReadsAll, notes_read, TakesFresh, BeginsFresh, IsProperAfter}
+use Rattle.stx_model.specs.Reads.{IsEndOf, StartsWith, BrokeAtNote, pool_with, store_with, ReadsAll, notes_read, TakesFresh, BeginsFresh, IsProperAfter}
 use Rattle.stx_model.specs.Script.{script}
 use Rattle.stx_base.specs.Serial.{Serial}
 use Rattle.stx_base.specs.Stores.{live, store_facts}
+use Rattle.stx_base.specs.Valid.{IsInOrder}
 use Rattle.stx_base.specs.Weight.{InRange, HasNoCycle, leads, weight}
 
 -- a legal history of the store is serial
@@ -39,10 +42,27 @@ EntriesWithin = (S : Scenario) → InRange S → HasNoCycle (leads S) (length S.
     → ((c : ℕ) → c < length S.clients → ReadsAll S c (pool_notes_of pool c) (store_notes_of store c))
     → length pool + length store ≤ notes_a_unit * weight S
 
+-- a script only grows with its notes: its lines over some notes are the first of its lines over these and more
+abbrev pub ScriptsGrow : Type 0
+ScriptsGrow = (S : Scenario) (c : ℕ) (pool more_pool : List PoolNote) (store more_store : List StoreNote)
+    → StartsWith (state_of (script S c (pool ++ more_pool) (store ++ more_store))).lines (state_of (script S c pool store)).lines
+
 -- what a script leaves unread is the end of the notes it was given, whatever its own end
 abbrev pub ReadsInOrder : Type 0
 ReadsInOrder = (S : Scenario) (c : ℕ) (pool : List PoolNote) (store : List StoreNote)
     → IsEndOf (state_of (script S c pool store)).pool pool × IsEndOf (state_of (script S c pool store)).store store
+
+-- where a script stops at a want with no note unread, and a note answers this want, the script over the notes with this
+-- one reads it and all before
+abbrev pub AnswersAreRead : Type 0
+AnswersAreRead = (S : Scenario) (c : ℕ) (pool : List PoolNote) (store : List StoreNote) (want : Want) (end : State) (n : Note)
+    → script S c pool store ≡ Stops want end → end.pool ≡ [] → end.store ≡ [] → is_answer want n ≡ true
+    → ReadsAll S c (pool_with pool n) (store_with store n)
+
+-- in a valid scenario a script breaks only at a note that doesn't answer what it wants
+abbrev pub BreaksAtWrongNotes : Type 0
+BreaksAtWrongNotes = (S : Scenario) → IsInOrder S → (c : ℕ) (pool : List PoolNote) (store : List StoreNote) (end : State)
+    → script S c pool store ≡ Breaks end → BrokeAtNote S c pool store end
 
 -- a client's own notes in legal histories take no connection that it has out, and begin no number twice
 abbrev pub OwnNotesFresh : Type 0

@@ -1,5 +1,5 @@
 // The laws of the definitions, each carried by the contract of a function that does nothing.
-ghost use Rattle.stx_model.specs.Laws.{Balanced, DoneIsFaithful, EntriesWithin, GivesAllBack, JournalIsSerial, OwnNotesFresh, ReadsWithin, WantsProper};
+ghost use Rattle.stx_model.specs.Laws.{AnswersAreRead, Balanced, BreaksAtWrongNotes, DoneIsFaithful, EntriesWithin, GivesAllBack, JournalIsSerial, OwnNotesFresh, ReadsInOrder, ReadsWithin, ScriptsGrow, WantsProper};
 ghost use Rattle.stx_model.specs.Assurances.{AfterCommitComesTooLate, AfterCommitThrowsToTheCaller, CallsLeaveTheContext, JoinedScopesOnlyMark, RequiresNewStandsApart};
 
 /// The store's journal is a serial order. Take any legal history of the store, and run the committed transactions and
@@ -90,4 +90,29 @@ pub fn gives_all_back()
 /// lines is a faithful run.
 pub fn done_is_faithful()
     ensures { DoneIsFaithful }
+{}
+
+/// A script only grows with its notes. Give a client more answers from the pool and the store, at the end of those that
+/// it had: all lines that its script said are there still, in the same places, and what is new comes after them.
+pub fn scripts_grow()
+    ensures { ScriptsGrow }
+{}
+
+/// A script reads its notes in order: whatever its end, what it leaves unread is the end of the notes that it was given.
+pub fn reads_in_order()
+    ensures { ReadsInOrder }
+{}
+
+/// Answers are read. Where a script has read all its notes and waits for a call, and a note answers this call, the script
+/// over the notes with this one reads them all again, this one too: it goes on, and never turns back to an older question.
+pub fn answers_are_read()
+    ensures { AnswersAreRead }
+{}
+
+/// In a valid scenario a script breaks at nothing but a wrong note. Wherever it breaks, the next note doesn't answer the
+/// call that it wants there, and over the notes before this one it stops at that call, with the lines that it has. So a
+/// client whose calls are answered never breaks: whatever a method or a callback calls lies within the bound by rank, a
+/// commit, a rollback and a savepoint find their transaction, and a callback holds nothing that it can't do.
+pub fn breaks_at_wrong_notes()
+    ensures { BreaksAtWrongNotes }
 {}
