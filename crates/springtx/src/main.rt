@@ -3,8 +3,6 @@
 
 mod answer;
 mod not_yet;
-#[cfg(test)]
-mod tests;
 mod tool;
 
 use std::alloc::Global;
