@@ -1,15 +1,13 @@
 -- The forms that aren't played yet: the first place, in walk order, of a valid scenario that has one.
-use Rattle.std.specs.Prelude.{ℕ, ◌+◌, Bool, true, false, ◌&&◌, if◌then◌else◌, List, [], ◌∷◌, ◌++◌, codes, Option, Some, None}
-use Rattle.std.specs.Option.{is_some, option_or, option_and_then}
-use Rattle.stx_scenario.specs.declared.numbers.MethodNo.{MethodNo}
+use Rattle.std.specs.Prelude.{ℕ, ◌+◌, Bool, true, false, List, [], ◌∷◌, ◌++◌, codes, Option, Some, None}
+use Rattle.std.specs.Option.{is_some, option_or}
 use Rattle.stx_scenario.specs.declared.scenario.Scenario.{Scenario}
-use Rattle.stx_scenario.specs.declared.scenario.SyncMode.{SyncMode}
 use Rattle.stx_scenario.specs.declared.scenario.Bean.{Bean}
 use Rattle.stx_scenario.specs.declared.scenario.Method.{Method}
 use Rattle.stx_scenario.specs.declared.scenario.TxAttr.{TxAttr}
-use Rattle.stx_scenario.specs.declared.scenario.Propagation.{Propagation}
 use Rattle.stx_scenario.specs.declared.scenario.Stmt.{Stmt}
 use Rattle.stx_base.specs.Attributes.{bean_attribute}
+use Rattle.stx_model.specs.Built.{is_always, is_required, is_built}
 use Rattle.stx_refusals.specs.Faults.{under, entry, first_some}
 
 -- this place, unless its form is built
@@ -21,28 +19,6 @@ unless_built false path = Some path
 abbrev pub first_from : {A : Type 0} → (ℕ → A → Option (List ℕ)) → ℕ → List A → Option (List ℕ)
 first_from place n [] = None
 first_from place n (x ∷ xs) = option_or (place n x) (first_from place (n + 1) xs)
-
--- ---- which forms are built
-
-abbrev pub is_always : SyncMode → Bool
-is_always SyncMode.Always = true
-is_always _ = false
-
-abbrev pub is_required : Propagation → Bool
-is_required Propagation.Required = true
-is_required _ = false
-
--- a method's body reads, writes, erases, adds, needs and throws
-abbrev pub is_built : Stmt → Bool
-is_built (Stmt.Read row) = true
-is_built (Stmt.Write row v) = true
-is_built (Stmt.Erase row) = true
-is_built (Stmt.Add row v) = true
-is_built (Stmt.Need row v) = true
-is_built (Stmt.Throw class) = true
-is_built _ = false
-
--- ---- places
 
 abbrev pub tx_not_yet : List ℕ → Option TxAttr → Option (List ℕ)
 tx_not_yet path None = None
