@@ -5,9 +5,7 @@ use Rattle.std.proofs.lemmas.Str.{IsUtf8-from_is_utf8, is_utf8-from_IsUtf8}
 use Rattle.std.proofs.lemmas.Bool.{cases_Bool}
 use Rattle.toml.specs.Data.{Members}
 use Rattle.toml.specs.Parse.{parse_document}
-use Rattle.stx_draft.specs.Document.{document_of, refused_in}
-use Rattle.stx_refusals.specs.declared.fault.Stage.{Stage}
-use Rattle.stx_refusals.specs.Faults.{first_at}
+use Rattle.stx_draft.specs.Document.{document_of, early_refusal, refused_in}
 use Rattle.stx_refusals.proofs.QuietLaws.{some_none}
 use Rattle.stx_names.specs.Duplicates.{duplicate_among}
 use Rattle.stx_draft.specs.Walk.{document_faults}
@@ -27,11 +25,5 @@ document_refused bytes none =
 pub none_twice : (root : Members) → refused_in root ≡ None → duplicate_among (names_in root) ≡ None
 unfolding refused_in
 none_twice root none =
-    let faults = document_faults root in
-    let keys = some_none (first_at Stage.UnknownKey faults) _ none in
-    let missing = some_none (first_at Stage.Missing faults) _ keys.1 in
-    let types = some_none (first_at Stage.WrongType faults) _ missing.1 in
-    let names = some_none (first_at Stage.BadName faults) _ types.1 in
-    let ranges = some_none (first_at Stage.OutOfRange faults) _ names.1 in
-    let counts = some_none (first_at Stage.TooMany faults) _ ranges.1 in
-    (some_none (duplicate_among (names_in root)) _ counts.1).0
+    let early = some_none (early_refusal (document_faults root)) _ none in
+    (some_none (duplicate_among (names_in root)) _ early.1).0

@@ -10,7 +10,7 @@ use Rattle.stx_names.specs.declared.named.Named.{Named}
 use Rattle.stx_draft.specs.Parts.{tables_at}
 use Rattle.stx_draft.specs.DeclaredNames.{names_in}
 use Rattle.stx_scenario.specs.Names.{built_in_names}
-use Rattle.stx_draft.specs.Draft.{all_names, row_said, with_rows, sentences_at, callback_sentences, sentences_of}
+use Rattle.stx_draft.specs.Draft.{numbered_by, all_names, row_said, with_rows, sentences_at, callback_sentences, sentences_of}
 use Rattle.stx_names.specs.Numbers.{with_name}
 
 pub with_rows-append : (rows : List (List ℕ)) (a b : List Sentence) → with_rows rows (a ++ b) ≡ with_rows (with_rows rows a) b
@@ -37,8 +37,6 @@ document_rows seen root methods syncs listeners r0 r1 r2 r3 m s l e1 e2 e3 =
 
 -- ---- all names with their numbers
 
-pub all_named : (root : Members) (named : Named) (events rows0 rows classes beans methods syncs : List (List ℕ)) → named ≡ names_in root
-    → events ≡ named.events → rows0 ≡ named.rows → rows ≡ with_rows rows0 (sentences_of root) → classes ≡ built_in_names ++ named.classes
-    → beans ≡ named.beans → methods ≡ named.methods → syncs ≡ named.syncs
-    → record { events = events; rows = rows; classes = classes; beans = beans; methods = methods; syncs = syncs } ≡ all_names root
-all_named root named events rows0 rows classes beans methods syncs n e r0 r c b m s = rw (e, r, r0, c, b, m, s, n)
+pub all_named : (root : Members) (named : Named) (rows0 rows : List (List ℕ)) → named ≡ names_in root → rows0 ≡ named.rows
+    → rows ≡ with_rows rows0 (sentences_of root) → numbered_by named rows ≡ all_names root
+all_named root named rows0 rows n r0 r = rw (r, r0, n)

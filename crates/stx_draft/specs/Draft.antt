@@ -23,6 +23,7 @@ use Rattle.stx_scenario.specs.declared.scenario.Listener.{Listener}
 use Rattle.stx_scenario.specs.declared.scenario.Phase.{Phase}
 use Rattle.stx_scenario.specs.declared.scenario.Stmt.{Stmt}
 use Rattle.stx_scenario.specs.BuiltIn.{built_in}
+use Rattle.stx_names.specs.declared.named.Named.{Named}
 use Rattle.stx_names.specs.declared.numbered.Numbered.{Numbered}
 use Rattle.stx_names.specs.declared.sentence.Sentence.{Sentence}
 use Rattle.stx_names.specs.declared.sentence.RuleSentence.{RuleSentence}
@@ -72,16 +73,20 @@ with_rows rows sentences = fold with_name rows (flat_map row_said sentences)
 abbrev pub row_names_in : Members → List (List ℕ)
 row_names_in root = with_rows (names_in root).rows (sentences_of root)
 
--- all names that are looked up, in the order of their numbers: also the built-in classes, and the rows that only statements name
-abbrev pub all_names : Members → Numbered
-all_names root = record {
-  events = (names_in root).events;
-  rows = row_names_in root;
-  classes = built_in_names ++ (names_in root).classes;
-  beans = (names_in root).beans;
-  methods = (names_in root).methods;
-  syncs = (names_in root).syncs;
+-- these names and rows in the order of their numbers, after the built-in classes
+abbrev pub numbered_by : Named → List (List ℕ) → Numbered
+numbered_by named rows = record {
+  events = named.events;
+  rows = rows;
+  classes = built_in_names ++ named.classes;
+  beans = named.beans;
+  methods = named.methods;
+  syncs = named.syncs;
 }
+
+-- all names that are looked up: also the built-in classes, and the rows that only statements name
+abbrev pub all_names : Members → Numbered
+all_names root = numbered_by (names_in root) (row_names_in root)
 
 -- ---- statements and rules
 

@@ -3,13 +3,13 @@ ghost use Rattle.std.specs.Prelude.{◌≡◌, ◌≢◌, IfOk, IfErr, Some, Non
 ghost use Rattle.stx_scenario.specs.Memory.{no_memory};
 ghost use Rattle.toml.specs.Errors.{IsMemory};
 ghost use Rattle.toml.specs.View.{table_view};
-ghost use Rattle.stx_draft.specs.Document.{document_of, refused_in as refusal_of};
+ghost use Rattle.stx_draft.specs.Document.{document_of, early_refusal as refusal_before_duplicates, refused_in as refusal_of};
 
 use crate::declared_names::names_in;
 use crate::walk::document_faults;
 use std::alloc::{AllocError, Global};
 use stx_names::duplicate_among;
-use stx_refusals::{ReadFault, Stage, first_at};
+use stx_refusals::{Fault, ReadFault, Stage, first_at};
 use stx_scenario::NoMemory;
 use toml::Table;
 use toml::de::Error;
@@ -38,6 +38,20 @@ pub fn refused_in(alloc: Global, root: &Table) -> Result<Option<ReadFault>, NoMe
 {
     let faults = document_faults(alloc, root)?;
     let faults = faults.as_slice();
+    if let Some(fault) = early_refusal(alloc, faults)? {
+        return Ok(Some(fault));
+    }
+    let names = names_in(alloc, root)?;
+    if let Some(fault) = duplicate_among(alloc, &names)? {
+        return Ok(Some(fault));
+    }
+    first_at(alloc, Stage::BadWord, faults)
+}
+
+/// What the stages up to names that stand twice refuse: keys, types, names and numbers.
+fn early_refusal(alloc: Global, faults: &[Fault]) -> Result<Option<ReadFault>, NoMemory>
+    ensures { IfOk result (λ fault. fault ≡ refusal_before_duplicates faults.now) }
+{
     if let Some(fault) = first_at(alloc, Stage::UnknownKey, faults)? {
         return Ok(Some(fault));
     }
@@ -53,14 +67,7 @@ pub fn refused_in(alloc: Global, root: &Table) -> Result<Option<ReadFault>, NoMe
     if let Some(fault) = first_at(alloc, Stage::OutOfRange, faults)? {
         return Ok(Some(fault));
     }
-    if let Some(fault) = first_at(alloc, Stage::TooMany, faults)? {
-        return Ok(Some(fault));
-    }
-    let names = names_in(alloc, root)?;
-    if let Some(fault) = duplicate_among(alloc, &names)? {
-        return Ok(Some(fault));
-    }
-    first_at(alloc, Stage::BadWord, faults)
+    first_at(alloc, Stage::TooMany, faults)
 }
 
 /// The want of memory of which the library tells.

@@ -5,7 +5,7 @@ ghost use Rattle.stx_scenario.specs.BuiltIn.{built_in};
 ghost use Rattle.stx_scenario.specs.Names.{built_in_names, duplicate_from};
 ghost use Rattle.stx_names.specs.Duplicates.{duplicate_among};
 ghost use Rattle.stx_draft.specs.DeclaredNames.{names_in as names_of_document};
-ghost use Rattle.stx_draft.specs.Draft.{all_names, class_in, drafted as drafted_of, natural as natural_of};
+ghost use Rattle.stx_draft.specs.Draft.{all_names, numbered_by, bean_in, calls_in, class_in, drafted as drafted_of, listener_in, method_in_table, sync_in, natural as natural_of};
 ghost use Rattle.stx_draft.specs.Parts.{numbers_at as numbers_of, tables_at as tables_of, number_at as number_of};
 
 mod rows;
@@ -19,10 +19,33 @@ use crate::parts::{number_at, numbers_at, tables_at};
 use rows::with_named_rows;
 use settings::{natural, settings_of};
 use std::alloc::Global;
-use stx_names::{Numbered, Numbers, built_in_numbers, with_names};
-use stx_scenario::{ClassDecl, List, Name, NoMemory, Scenario, built_in_classes};
+use stx_names::{Named, Numbered, Numbers, built_in_numbers, with_names};
+use stx_scenario::{
+    Bean, Calls, ClassDecl, List, Listener, Method, Name, NoMemory, Scenario, SyncDecl,
+    built_in_classes,
+};
 use tables::{Drafted, draft_each};
 use toml::Table;
+
+/// What a document lists.
+#[derive(Drop)]
+struct Listed {
+    events: List<Name>,
+    schedule: List<u32>,
+    row_names: List<Name>,
+    values: List<i64>,
+    classes: List<ClassDecl>,
+}
+
+/// What a document declares with statements or attributes, and what its clients call.
+#[derive(Drop)]
+struct Declarations {
+    beans: List<Bean>,
+    methods: List<Method>,
+    syncs: List<SyncDecl>,
+    listeners: List<Listener>,
+    clients: List<Calls>,
+}
 
 /// The scenario that a document states, whose names all differ.
 pub fn drafted(alloc: Global, root: &Table) -> Result<Scenario, NoMemory>
@@ -32,28 +55,53 @@ pub fn drafted(alloc: Global, root: &Table) -> Result<Scenario, NoMemory>
 {
     let settings = settings_of(root);
     let names = all_names_in(alloc, root)?;
-    let events = names.events.names(alloc)?;
-    let schedule = schedule_in(alloc, root)?;
-    let row_names = names.rows.names(alloc)?;
-    let values = values_in(alloc, root)?;
-    let classes = classes_in(alloc, root, &names)?;
-    let beans = tables_of_array(alloc, root, "beans", &names)?;
-    let methods = tables_of_array(alloc, root, "methods", &names)?;
-    let syncs = tables_of_array(alloc, root, "syncs", &names)?;
-    let listeners = tables_of_array(alloc, root, "listeners", &names)?;
-    let clients = tables_of_array(alloc, root, "clients", &names)?;
+    let listed = listed_in(alloc, root, &names)?;
+    let declared = declared_in(alloc, root, &names)?;
     Ok(Scenario {
         settings,
-        events,
-        schedule,
-        row_names,
-        values,
-        classes,
-        beans,
-        methods,
-        syncs,
-        listeners,
-        clients,
+        events: listed.events,
+        schedule: listed.schedule,
+        row_names: listed.row_names,
+        values: listed.values,
+        classes: listed.classes,
+        beans: declared.beans,
+        methods: declared.methods,
+        syncs: declared.syncs,
+        listeners: declared.listeners,
+        clients: declared.clients,
+    })
+}
+
+fn listed_in(alloc: Global, root: &Table, names: &Numbered) -> Result<Listed, NoMemory>
+    ensures events { IfOk result (λ listed. listed.events ≡ names.now.events) }
+    ensures schedule { IfOk result (λ listed. listed.schedule ≡ map natural_of (numbers_of (codes "schedule") (table_view root.now))) }
+    ensures row_names { IfOk result (λ listed. listed.row_names ≡ names.now.rows) }
+    ensures few_rows { IfOk result (λ listed. length listed.row_names < 2 ^ 32) }
+    ensures values { IfOk result (λ listed. listed.values ≡ map (number_of (codes "value") (pos 0)) (tables_of (codes "rows") (table_view root.now))) }
+    ensures classes { IfOk result (λ listed. listed.classes ≡ built_in ++ map (class_in names.now) (tables_of (codes "classes") (table_view root.now))) }
+{
+    Ok(Listed {
+        events: names.events.names(alloc)?,
+        schedule: schedule_in(alloc, root)?,
+        row_names: names.rows.names(alloc)?,
+        values: values_in(alloc, root)?,
+        classes: classes_in(alloc, root, names)?,
+    })
+}
+
+fn declared_in(alloc: Global, root: &Table, names: &Numbered) -> Result<Declarations, NoMemory>
+    ensures beans { IfOk result (λ declared. declared.beans ≡ map (bean_in names.now) (tables_of (codes "beans") (table_view root.now))) }
+    ensures methods { IfOk result (λ declared. declared.methods ≡ map (method_in_table names.now) (tables_of (codes "methods") (table_view root.now))) }
+    ensures syncs { IfOk result (λ declared. declared.syncs ≡ map (sync_in names.now) (tables_of (codes "syncs") (table_view root.now))) }
+    ensures listeners { IfOk result (λ declared. declared.listeners ≡ map (listener_in names.now) (tables_of (codes "listeners") (table_view root.now))) }
+    ensures clients { IfOk result (λ declared. declared.clients ≡ map (calls_in names.now) (tables_of (codes "clients") (table_view root.now))) }
+{
+    Ok(Declarations {
+        beans: tables_of_array(alloc, root, "beans", names)?,
+        methods: tables_of_array(alloc, root, "methods", names)?,
+        syncs: tables_of_array(alloc, root, "syncs", names)?,
+        listeners: tables_of_array(alloc, root, "listeners", names)?,
+        clients: tables_of_array(alloc, root, "clients", names)?,
     })
 }
 
@@ -63,20 +111,24 @@ fn all_names_in(alloc: Global, root: &Table) -> Result<Numbered, NoMemory>
     ensures { IfOk result (λ names. names ≡ all_names (table_view root.now)) }
 {
     let named = names_in(alloc, root)?;
-    let events = declared(alloc, &named.events)?;
     let rows = declared(alloc, &named.rows)?;
     let rows = with_named_rows(alloc, root, rows)?;
-    let classes = declared_classes(alloc, &named.classes)?;
-    let beans = declared(alloc, &named.beans)?;
-    let methods = declared(alloc, &named.methods)?;
-    let syncs = declared(alloc, &named.syncs)?;
+    let names = numbered(alloc, &named, rows)?;
+    Ok(names)
+}
+
+/// These names, which all differ, and rows with their numbers.
+fn numbered(alloc: Global, named: &Named, rows: Numbers) -> Result<Numbered, NoMemory>
+    requires { duplicate_among named.now ≡ None }
+    ensures { IfOk result (λ names. names ≡ numbered_by named.now rows) }
+{
     Ok(Numbered {
-        events,
+        events: declared(alloc, &named.events)?,
         rows,
-        classes,
-        beans,
-        methods,
-        syncs,
+        classes: declared_classes(alloc, &named.classes)?,
+        beans: declared(alloc, &named.beans)?,
+        methods: declared(alloc, &named.methods)?,
+        syncs: declared(alloc, &named.syncs)?,
     })
 }
 

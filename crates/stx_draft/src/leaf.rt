@@ -6,27 +6,25 @@ ghost use Rattle.stx_names.specs.Integers.{is_within as within_test};
 ghost use Rattle.stx_draft.specs.Schema.{text_stage as text_stage_of, number_stage as number_stage_of, flag_stage as flag_stage_of, leaf_stage as leaf_stage_of};
 
 use crate::schema::Leaf;
-use std::alloc::Global;
 use stx_names::{is_class_name, is_name, mode_in, phase_in, propagation_in, rule_in, sentence_in};
 use stx_refusals::Stage;
-use stx_scenario::NoMemory;
 use toml::Value;
 
 /// What is refused in a single value.
 #[tactic(auto, using(crate::proofs::LeafLaws::stage_of_text, crate::proofs::LeafLaws::stage_of_number, crate::proofs::LeafLaws::stage_of_flag, crate::proofs::LeafLaws::stage_of_other))]
-pub fn leaf_stage(alloc: Global, leaf: Leaf, value: &Value) -> Result<Option<Stage>, NoMemory>
-    ensures { IfOk result (λ stage. stage ≡ leaf_stage_of leaf (view value.now)) }
+pub fn leaf_stage(leaf: Leaf, value: &Value) -> Option<Stage>
+    ensures { result ≡ leaf_stage_of leaf (view value.now) }
 {
     if let Some(text) = value.as_str() {
-        return text_stage(alloc, leaf, text);
+        return text_stage(leaf, text);
     }
     if let Some(number) = value.as_integer() {
-        return Ok(number_stage(leaf, number));
+        return number_stage(leaf, number);
     }
     if value.is_bool() {
-        return Ok(flag_stage(leaf));
+        return flag_stage(leaf);
     }
-    Ok(Some(Stage::WrongType))
+    Some(Stage::WrongType)
 }
 
 /// What is refused in the number of an array's entries.
@@ -39,20 +37,20 @@ pub fn count_stage(least: usize, most: usize, count: usize) -> Option<Stage>
     unless(count <= most, Stage::TooMany)
 }
 
-fn text_stage(alloc: Global, leaf: Leaf, text: &str) -> Result<Option<Stage>, NoMemory>
-    ensures { IfOk result (λ stage. stage ≡ text_stage_of leaf text.now) }
+fn text_stage(leaf: Leaf, text: &str) -> Option<Stage>
+    ensures { result ≡ text_stage_of leaf text.now }
 {
     match leaf {
-        Leaf::Text => Ok(None),
-        Leaf::Name => Ok(unless(is_name(text), Stage::BadName)),
-        Leaf::ClassName => Ok(unless(is_class_name(text), Stage::BadName)),
-        Leaf::ModeWord => Ok(unless(mode_in(text).is_some(), Stage::BadWord)),
-        Leaf::PropagationWord => Ok(unless(propagation_in(text).is_some(), Stage::BadWord)),
-        Leaf::PhaseWord => Ok(unless(phase_in(text).is_some(), Stage::BadWord)),
-        Leaf::Statement => Ok(unless(sentence_in(alloc, text)?.is_some(), Stage::BadWord)),
-        Leaf::Rule => Ok(unless(rule_in(alloc, text)?.is_some(), Stage::BadWord)),
+        Leaf::Text => None,
+        Leaf::Name => unless(is_name(text), Stage::BadName),
+        Leaf::ClassName => unless(is_class_name(text), Stage::BadName),
+        Leaf::ModeWord => unless(mode_in(text).is_some(), Stage::BadWord),
+        Leaf::PropagationWord => unless(propagation_in(text).is_some(), Stage::BadWord),
+        Leaf::PhaseWord => unless(phase_in(text).is_some(), Stage::BadWord),
+        Leaf::Statement => unless(sentence_in(text).is_some(), Stage::BadWord),
+        Leaf::Rule => unless(rule_in(text).is_some(), Stage::BadWord),
         Leaf::Flag | Leaf::Pool | Leaf::Order | Leaf::Client | Leaf::RowValue => {
-            Ok(Some(Stage::WrongType))
+            Some(Stage::WrongType)
         }
     }
 }

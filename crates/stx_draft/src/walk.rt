@@ -156,7 +156,7 @@ fn leaf_faults(
 ) -> Result<(), NoMemory>
     ensures { OnOk result (faults.new ≡ faults.old ++ refused path.now (stage_of leaf (view value.now))) }
 {
-    let Some(stage) = leaf_stage(alloc, leaf, value)? else {
+    let Some(stage) = leaf_stage(leaf, value) else {
         return Ok(());
     };
     refuse_at(alloc, faults, stage, path)
@@ -205,7 +205,7 @@ fn item_faults(
 ) -> Result<(), NoMemory>
     ensures { OnOk result (faults.new ≡ faults.old ++ refused (path_of_entry path.now at) (stage_of leaf (view item.now))) }
 {
-    let Some(stage) = leaf_stage(alloc, leaf, item)? else {
+    let Some(stage) = leaf_stage(leaf, item) else {
         return Ok(());
     };
     refuse(faults, stage, entry(alloc, path, at)?)

@@ -1,69 +1,126 @@
 -- Statements, rules and methods by the number of their words.
-use Rattle.std.proofs.Common.{◌≡◌, ◌≢◌, ℕ, ◌==◌, List, [], ◌∷◌, length, map, get_or, drop, ◌+◌, lit<, Option, Some, None, Bor, true, refl, ap, inl, inr, arith}
+use Rattle.std.proofs.Common.{◌≡◌, ◌≢◌, ℕ, suc, ◌==◌, List, [], ◌∷◌, ◌++◌, length, drop, get_or, ◌+◌, ◌<◌, lit<, Option, Some, None, IfSome, IfNone, Bor, true, false, refl, ap, ◌∙◌, inl, inr, arith}
 use Rattle.std.proofs.lemmas.Bool.{cases_Bool}
 use Rattle.std.proofs.lemmas.Bool.Decides.{nat_tests}
-use Rattle.std.proofs.lemmas.Str.Pattern.{strip_prefix_char}
+use Rattle.std.proofs.lemmas.List.Splits.{slice_split-cons_yes, slice_split-cons_no, length-slice_split}
+use Rattle.std.proofs.lemmas.Str.Pattern.{IsSplitOnceResult, split_parts, strip_prefix_char}
+use Rattle.std.specs.List.{slice_split, onto_first}
 use Rattle.std.specs.Option.{option_map, option_and_then, MatchOption}
 use Rattle.std.specs.Str.Pattern.{FindsCharPrefix}
 use Rattle.stx_names.specs.declared.sentence.Matched.{Matched}
-use Rattle.stx_names.specs.Sentences.{words_of, parts_of, name_in, two_names, method_in, sentence_of, sentence_in, decision_in, rule_with, rule_of, rule_in, class_in, pattern_in, matched_in}
+use Rattle.stx_names.specs.Sentences.{words_of, parts_of, name_in, two_names, method_in, alone, about, with_value, with_catch, sentence_of, sentence_in, decision_in, rule_with, rule_of, rule_in, class_in, pattern_in, matched_in}
 
--- ---- `ws` are the words as the code holds them, and `now` shows what one is
+-- ---- what `split_once` says of parts
 
-module _ {W : Type 0} (now : W → List ℕ) (ws : List W) (text : List ℕ) where
-  pub two_parts : (a b : W) → map now ws ≡ parts_of text → length ws ≡ 2 → a ≡ get_or ws 0 a → b ≡ get_or ws 1 b
-      → method_in text ≡ option_and_then (λ x. option_map (λ m. (x, m)) (name_in (now b))) (name_in (now a))
-  two_parts a b split two first second = rw (← split) (by ws two first second)
+module _ (c : ℕ) where
+  alien : (b : ℕ) → b ≢ c → (b == c) ≡ false
+  alien b other = grind (arith, nat_tests)
+
+  itself : (b : ℕ) → b ≡ c → (b == c) ≡ true
+  itself b same = grind (arith, nat_tests)
+
+  whole : (text : List ℕ) → ((i : ℕ) → i < length text → get_or text i 0 ≢ c) → slice_split (λ b. b == c) text ≡ text ∷ []
+  whole [] other = refl
+  whole (b ∷ text) other =
+      slice_split-cons_no (λ b. b == c) b text (alien b (other 0 (omega arith)))
+      ∙ ap (onto_first b) (whole text (λ i within. other (suc i) (omega arith)))
+
+  cut_at : (first rest : List ℕ) → ((i : ℕ) → i < length first → get_or first i 0 ≢ c)
+      → slice_split (λ b. b == c) (first ++ c ∷ rest) ≡ first ∷ slice_split (λ b. b == c) rest
+  cut_at [] rest other = slice_split-cons_yes (λ b. b == c) c rest (itself c refl)
+  cut_at (b ∷ first) rest other =
+      slice_split-cons_no (λ b. b == c) b (first ++ c ∷ rest) (alien b (other 0 (omega arith)))
+      ∙ ap (onto_first b) (cut_at first rest (λ i within. other (suc i) (omega arith)))
+
+  pub cut_parts : (text : List ℕ) (r : Option (Bor (List ℕ) × Bor (List ℕ))) → IsSplitOnceResult c text r → c < 128
+      → MatchOption r (slice_split (λ b. b == c) text ≡ text ∷ []) (λ cut. slice_split (λ b. b == c) text ≡ cut.0.now ∷ slice_split (λ b. b == c) cut.1.now)
+  cut_parts text r cut small = by r (split_parts c text r cut small)
     where
-      by : (vs : List W) → length vs ≡ 2 → a ≡ get_or vs 0 a → b ≡ get_or vs 1 b
-          → two_names (map now vs) ≡ option_and_then (λ x. option_map (λ m. (x, m)) (name_in (now b))) (name_in (now a))
-      by [] e f g = absurd (omega arith)
-      by (x ∷ []) e f g = absurd (omega arith)
-      by (x ∷ y ∷ []) e f g = rw (f, g)
-      by (x ∷ y ∷ z ∷ vs) e f g = absurd (omega arith)
+      by : (r : Option (Bor (List ℕ) × Bor (List ℕ)))
+          → MatchOption r ((i : ℕ) → i < length text → get_or text i 0 ≢ c) (λ x. (text ≡ x.0.now ++ (c ∷ x.1.now)) × ((i : ℕ) → i < length x.0.now → get_or x.0.now i 0 ≢ c))
+          → MatchOption r (slice_split (λ b. b == c) text ≡ text ∷ []) (λ cut. slice_split (λ b. b == c) text ≡ cut.0.now ∷ slice_split (λ b. b == c) cut.1.now)
+      by None none = whole text none
+      by (Some x) parts = ap (slice_split (λ b. b == c)) parts.0 ∙ cut_at x.0.now x.1.now parts.1
 
-  pub no_method : map now ws ≡ parts_of text → length ws ≢ 2 → method_in text ≡ None
-  no_method split other = rw (← split) (by ws other)
-    where
-      by : (vs : List W) → length vs ≢ 2 → two_names (map now vs) ≡ None
-      by [] n = refl
-      by (a ∷ []) n = refl
-      by (a ∷ b ∷ []) n = absurd (n refl)
-      by (a ∷ b ∷ c ∷ vs) n = refl
+pub if_some : {X : Type 0} (r : Option X) (A : Type 0) (P : X → Type 0) → MatchOption r A P → IfSome r P
+if_some None A P m = tt
+if_some (Some x) A P m = m
 
-  pub no_sentence : map now ws ≡ words_of text → length ws ≢ 1 → length ws ≢ 2 → length ws ≢ 3 → length ws ≢ 4 → sentence_in text ≡ None
+pub if_none : {X : Type 0} (r : Option X) (A : Type 0) (P : X → Type 0) → MatchOption r A P → IfNone r A
+if_none None A P m = m
+if_none (Some x) A P m = tt
+
+-- a text has some part
+some_part : (c : ℕ) (text : List ℕ) → 0 < length (slice_split (λ b. b == c) text)
+some_part c text = omega (arith, length-slice_split (λ b. b == c) text)
+
+-- ---- sentences by their words
+
+module _ (text : List ℕ) where
+  pub one_word : (verb : List ℕ) → words_of text ≡ verb ∷ [] → sentence_in text ≡ alone verb
   unfolding sentence_in
-  no_sentence split one two three four = rw (← split) (by ws one two three four)
-    where
-      by : (vs : List W) → length vs ≢ 1 → length vs ≢ 2 → length vs ≢ 3 → length vs ≢ 4 → sentence_of (map now vs) ≡ None
-      by [] k l m n = refl
-      by (a ∷ []) k l m n = absurd (k refl)
-      by (a ∷ b ∷ []) k l m n = absurd (l refl)
-      by (a ∷ b ∷ c ∷ []) k l m n = absurd (m refl)
-      by (a ∷ b ∷ c ∷ d ∷ []) k l m n = absurd (n refl)
-      by (a ∷ b ∷ c ∷ d ∷ e ∷ vs) k l m n = refl
+  one_word verb words = ap sentence_of words
 
-  pub two_words : (a b : W) → map now ws ≡ words_of text → length ws ≡ 2 → a ≡ get_or ws 0 a → b ≡ get_or ws 1 b
-      → rule_in text ≡ option_and_then (rule_with (now b)) (decision_in (now a))
-  unfolding rule_in
-  two_words a b split two first second = rw (← split) (by ws two first second)
-    where
-      by : (vs : List W) → length vs ≡ 2 → a ≡ get_or vs 0 a → b ≡ get_or vs 1 b
-          → rule_of (map now vs) ≡ option_and_then (rule_with (now b)) (decision_in (now a))
-      by [] e f g = absurd (omega arith)
-      by (x ∷ []) e f g = absurd (omega arith)
-      by (x ∷ y ∷ []) e f g = rw (f, g)
-      by (x ∷ y ∷ z ∷ vs) e f g = absurd (omega arith)
+  pub two_words : (verb rest : List ℕ) → words_of text ≡ verb ∷ words_of rest → words_of rest ≡ rest ∷ [] → sentence_in text ≡ about verb rest
+  unfolding sentence_in
+  two_words verb rest first second = ap sentence_of (first ∙ ap (λ more. verb ∷ more) second)
 
-  pub no_rule : map now ws ≡ words_of text → length ws ≢ 2 → rule_in text ≡ None
-  unfolding rule_in
-  no_rule split other = rw (← split) (by ws other)
+  pub three_words : (verb object rest after : List ℕ) → words_of text ≡ verb ∷ words_of rest → words_of rest ≡ object ∷ words_of after → words_of after ≡ after ∷ []
+      → sentence_in text ≡ with_value verb object after
+  unfolding sentence_in
+  three_words verb object rest after first second third =
+      ap sentence_of (first ∙ ap (λ more. verb ∷ more) (second ∙ ap (λ more. object ∷ more) third))
+
+  pub four_words : (verb object word rest after last : List ℕ) → words_of text ≡ verb ∷ words_of rest → words_of rest ≡ object ∷ words_of after
+      → words_of after ≡ word ∷ words_of last → words_of last ≡ last ∷ [] → sentence_in text ≡ with_catch verb object word last
+  unfolding sentence_in
+  four_words verb object word rest after last first second third fourth =
+      ap sentence_of (first ∙ ap (λ more. verb ∷ more) (second ∙ ap (λ more. object ∷ more) (third ∙ ap (λ more. word ∷ more) fourth)))
+
+  pub five_words : (verb object word class rest after last over : List ℕ) → words_of text ≡ verb ∷ words_of rest → words_of rest ≡ object ∷ words_of after
+      → words_of after ≡ word ∷ words_of last → words_of last ≡ class ∷ words_of over → sentence_in text ≡ None
+  unfolding sentence_in
+  five_words verb object word class rest after last over first second third fourth =
+      ap sentence_of (first ∙ ap (λ more. verb ∷ more) (second ∙ ap (λ more. object ∷ more) (third ∙ ap (λ more. word ∷ more) fourth)))
+      ∙ by (words_of over) (some_part 32 over)
     where
-      by : (vs : List W) → length vs ≢ 2 → rule_of (map now vs) ≡ None
-      by [] n = refl
-      by (a ∷ []) n = refl
-      by (a ∷ b ∷ []) n = absurd (n refl)
-      by (a ∷ b ∷ c ∷ vs) n = refl
+      by : (more : List (List ℕ)) → 0 < length more → sentence_of (verb ∷ object ∷ word ∷ class ∷ more) ≡ None
+      by [] some = absurd (omega arith)
+      by (w ∷ more) some = refl
+
+-- ---- rules and methods by theirs
+
+module _ (text : List ℕ) where
+  pub rule_words : (verb rest : List ℕ) → words_of text ≡ verb ∷ words_of rest → words_of rest ≡ rest ∷ []
+      → rule_in text ≡ option_and_then (rule_with rest) (decision_in verb)
+  unfolding rule_in
+  rule_words verb rest first second = ap rule_of (first ∙ ap (λ more. verb ∷ more) second)
+
+  pub one_rule_word : words_of text ≡ text ∷ [] → rule_in text ≡ None
+  unfolding rule_in
+  one_rule_word words = ap rule_of words
+
+  pub three_rule_words : (verb word rest over : List ℕ) → words_of text ≡ verb ∷ words_of rest → words_of rest ≡ word ∷ words_of over → rule_in text ≡ None
+  unfolding rule_in
+  three_rule_words verb word rest over first second = ap rule_of (first ∙ ap (λ more. verb ∷ more) second) ∙ by (words_of over) (some_part 32 over)
+    where
+      by : (more : List (List ℕ)) → 0 < length more → rule_of (verb ∷ word ∷ more) ≡ None
+      by [] some = absurd (omega arith)
+      by (w ∷ more) some = refl
+
+  pub method_parts : (bean rest : List ℕ) → parts_of text ≡ bean ∷ parts_of rest → parts_of rest ≡ rest ∷ []
+      → method_in text ≡ option_and_then (λ b. option_map (λ m. (b, m)) (name_in rest)) (name_in bean)
+  method_parts bean rest first second = ap two_names (first ∙ ap (λ more. bean ∷ more) second)
+
+  pub one_part : parts_of text ≡ text ∷ [] → method_in text ≡ None
+  one_part parts = ap two_names parts
+
+  pub three_parts : (bean part rest over : List ℕ) → parts_of text ≡ bean ∷ parts_of rest → parts_of rest ≡ part ∷ parts_of over → method_in text ≡ None
+  three_parts bean part rest over first second = ap two_names (first ∙ ap (λ more. bean ∷ more) second) ∙ by (parts_of over) (some_part 46 over)
+    where
+      by : (more : List (List ℕ)) → 0 < length more → two_names (bean ∷ part ∷ more) ≡ None
+      by [] some = absurd (omega arith)
+      by (w ∷ more) some = refl
 
 -- ---- what `strip_prefix` says of `~`
 

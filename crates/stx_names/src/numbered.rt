@@ -4,8 +4,9 @@ ghost use Rattle.stx_names.specs.Numbers.{class_no as class_number, row_no as ro
 
 use crate::named::method_text;
 use crate::numbers::{NOTHING, Numbers};
+use crate::sentence::Word;
 use std::alloc::Global;
-use stx_scenario::{BeanNo, ClassNo, EventNo, MethodNo, Name, NoMemory, RowNo, SyncNo};
+use stx_scenario::{BeanNo, ClassNo, EventNo, MethodNo, NoMemory, RowNo, SyncNo};
 
 /// The names of each group in the order of their numbers: also the built-in classes, and the rows that only statements
 /// name. A method's is its bean's and its own.
@@ -78,7 +79,7 @@ impl Numbered {
     }
 
     /// The number of the class that is caught, if any.
-    pub fn catch_no(&self, catch: &Option<Name>) -> Option<ClassNo>
+    pub fn catch_no(&self, catch: &Option<Word<'_>>) -> Option<ClassNo>
         ensures { result ≡ catch_number self.now catch.now }
     {
         match catch {

@@ -1,91 +1,117 @@
-// What a statement or a rule says by names, before these are looked up.
-ghost use Rattle.std.specs.Prelude.{◌≡◌, IfOk, map, Some, None, option_map, option_and_then};
+// What a statement or a rule says by names, before these are looked up. It takes no memory: names stay where they stand.
+ghost use Rattle.std.specs.Prelude.{◌≡◌, ◌∷◌, [], IfSome, IfNone, Some, None, option_map, option_and_then};
+ghost use Rattle.stx_names.specs.declared.sentence.Matched.{Matched as MatchedData};
+ghost use Rattle.stx_names.specs.declared.sentence.Sentence.{Sentence as SentenceData};
 ghost use Rattle.stx_names.specs.Sentences.{words_of, parts_of, name_in as name_of, class_in as class_of, pattern_in as pattern_of, method_in as method_of, call_of};
 ghost use Rattle.stx_names.specs.Sentences.{alone as alone_of, about as about_of, with_value as valued, catching as catching_of, with_catch as caught, sentence_in as sentence_of};
-ghost use Rattle.stx_names.specs.declared.sentence.Sentence.{Sentence as SentenceData};
-ghost use Rattle.stx_names.specs.declared.sentence.Matched.{Matched as MatchedData};
 ghost use Rattle.stx_names.specs.Sentences.{matched_in as matched_of, decision_in as decision_of, rule_with, rule_in as rule_of};
 
 use crate::names::{is_name, is_pattern, may_name_class, number_in};
-use std::alloc::{AllocError, Global};
-use stx_scenario::{Name, NoMemory};
+use std::marker::Model;
+
+/// A name or a pattern, where a sentence says it.
+#[derive(Debug, Drop)]
+pub struct Word<'a> {
+    text: &'a str,
+}
+
+impl<'a> Model for Word<'a> {
+    ghost use Rattle.std.specs.Prelude.{List, ℕ};
+    ghost use Rattle.std.specs.Coded.{coded_list, coded_ℕ};
+
+    ghost Value = { List ℕ };
+
+    ghost coded = { coded_list coded_ℕ };
+
+    ghost view = { λ word. word.text.now };
+}
+
+impl<'a> Word<'a> {
+    pub fn as_str(&self) -> &str
+        ensures { result.now ≡ self.now }
+    {
+        self.text
+    }
+}
 
 /// A statement by the names in it.
-#[derive(Debug, Drop, PartialEq, Eq)]
-pub enum Sentence {
-    Read(Name),
-    Write(Name, i64),
-    Erase(Name),
-    Add(Name, i64),
-    Need(Name, i64),
+#[derive(Debug, Drop)]
+pub enum Sentence<'a> {
+    Read(Word<'a>),
+    Write(Word<'a>, i64),
+    Erase(Word<'a>),
+    Add(Word<'a>, i64),
+    Need(Word<'a>, i64),
     Call {
-        bean: Name,
-        method: Name,
-        catch: Option<Name>,
+        bean: Word<'a>,
+        method: Word<'a>,
+        catch: Option<Word<'a>>,
     },
     This {
-        method: Name,
-        catch: Option<Name>,
+        method: Word<'a>,
+        catch: Option<Word<'a>>,
     },
-    Throw(Name),
+    Throw(Word<'a>),
     Mark,
-    Publish(Name),
-    Register(Name),
+    Publish(Word<'a>),
+    Register(Word<'a>),
 }
 
 /// A rule by the name or the pattern in it.
-#[derive(Debug, Drop, PartialEq, Eq)]
-pub struct RuleSentence {
+#[derive(Debug, Drop)]
+pub struct RuleSentence<'a> {
     pub rollback: bool,
-    pub by: Matched,
+    pub by: Matched<'a>,
 }
 
 /// Which classes a rule names.
-#[derive(Debug, Drop, PartialEq, Eq)]
-pub enum Matched {
-    Class(Name),
-    Pattern(Name),
+#[derive(Debug, Drop)]
+pub enum Matched<'a> {
+    Class(Word<'a>),
+    Pattern(Word<'a>),
 }
 
-/// The statement that a text is.
-#[tactic(auto, using(crate::proofs::SentenceLaws::no_sentence), unfolding(crate::specs::Sentences::sentence_in))]
-pub fn sentence_in(alloc: Global, text: &str) -> Result<Option<Sentence>, NoMemory>
-    ensures { IfOk result (λ said. said ≡ sentence_of text.now) }
+// ---- words
+
+/// The first word of a text and what stands after the space, where there is one.
+fn first_word(text: &str) -> Option<(&str, &str)>
+    ensures more { IfSome result (λ cut. words_of text.now ≡ cut.0.now ∷ words_of cut.1.now) }
+    ensures one { IfNone result (words_of text.now ≡ text.now ∷ []) }
 {
-    let words = split_words(alloc, text)?;
-    match words.as_slice() {
-        [] => Ok(None),
-        [verb] => Ok(alone(verb)),
-        [verb, object] => about(alloc, verb, object),
-        [verb, row, value] => with_value(alloc, verb, row, value),
-        [verb, object, word, class] => with_catch(alloc, verb, object, word, class),
-        _ => Ok(None),
-    }
+    text.split_once(' ')
 }
 
-/// The rule that a text is.
-#[tactic(auto, using(crate::proofs::SentenceLaws::no_rule, crate::proofs::SentenceLaws::two_words))]
-pub fn rule_in(alloc: Global, text: &str) -> Result<Option<RuleSentence>, NoMemory>
-    ensures { IfOk result (λ said. said ≡ rule_of text.now) }
+/// The first part of a text and what stands after the dot, where there is one.
+fn first_part(text: &str) -> Option<(&str, &str)>
+    ensures more { IfSome result (λ cut. parts_of text.now ≡ cut.0.now ∷ parts_of cut.1.now) }
+    ensures one { IfNone result (parts_of text.now ≡ text.now ∷ []) }
 {
-    let words = split_words(alloc, text)?;
-    if words.len() != 2 {
-        return Ok(None);
-    }
-    rule_about(alloc, words[0], words[1])
-}
-
-/// The words of a text, each apart from the next by one space.
-fn split_words<'a>(alloc: Global, text: &'a str) -> Result<Vec<&'a str>, AllocError>
-    ensures { IfOk result (λ words. map (λ word. word.now) words.items ≡ words_of text.now) }
-{
-    text.split(' ').collect(alloc)
+    text.split_once('.')
 }
 
 // ---- statements
 
+/// The statement that a text is.
+pub fn sentence_in(text: &str) -> Option<Sentence<'_>>
+    ensures { result ≡ sentence_of text.now }
+{
+    let Some((verb, rest)) = first_word(text) else {
+        return alone(text);
+    };
+    let Some((object, rest)) = first_word(rest) else {
+        return about(verb, rest);
+    };
+    let Some((word, rest)) = first_word(rest) else {
+        return with_value(verb, object, rest);
+    };
+    match first_word(rest) {
+        Some(_) => None,
+        None => with_catch(verb, object, word, rest),
+    }
+}
+
 /// The statement of one word.
-fn alone(verb: &str) -> Option<Sentence>
+fn alone(verb: &str) -> Option<Sentence<'_>>
     ensures { result ≡ alone_of verb.now }
 {
     match verb {
@@ -95,167 +121,164 @@ fn alone(verb: &str) -> Option<Sentence>
 }
 
 /// The statement of a word and what it is about.
-fn about(alloc: Global, verb: &str, object: &str) -> Result<Option<Sentence>, NoMemory>
-    ensures { IfOk result (λ said. said ≡ about_of verb.now object.now) }
+fn about<'a>(verb: &str, object: &'a str) -> Option<Sentence<'a>>
+    ensures { result ≡ about_of verb.now object.now }
 {
     match verb {
-        "read" => Ok(name_in(alloc, object)?.map(Sentence::Read)),
-        "erase" => Ok(name_in(alloc, object)?.map(Sentence::Erase)),
-        "call" => call(alloc, object, None),
-        "this" => this(alloc, object, None),
-        "throw" => Ok(class_in(alloc, object)?.map(Sentence::Throw)),
-        "publish" => Ok(name_in(alloc, object)?.map(Sentence::Publish)),
-        "register" => Ok(name_in(alloc, object)?.map(Sentence::Register)),
-        _ => Ok(None),
+        "read" => name_in(object).map(Sentence::Read),
+        "erase" => name_in(object).map(Sentence::Erase),
+        "call" => call(object, None),
+        "this" => this(object, None),
+        "throw" => class_in(object).map(Sentence::Throw),
+        "publish" => name_in(object).map(Sentence::Publish),
+        "register" => name_in(object).map(Sentence::Register),
+        _ => None,
     }
 }
 
 /// The statement of a word, a row and a number.
-fn with_value(
-    alloc: Global,
-    verb: &str,
-    row: &str,
-    value: &str,
-) -> Result<Option<Sentence>, NoMemory>
-    ensures { IfOk result (λ said. said ≡ valued verb.now row.now value.now) }
+fn with_value<'a>(verb: &str, row: &'a str, value: &str) -> Option<Sentence<'a>>
+    ensures { result ≡ valued verb.now row.now value.now }
 {
-    let Some(row) = name_in(alloc, row)? else {
-        return Ok(None);
+    let Some(row) = name_in(row) else {
+        return None;
     };
     let Some(value) = number_in(value) else {
-        return Ok(None);
+        return None;
     };
     match verb {
-        "write" => Ok(Some(Sentence::Write(row, value))),
-        "add" => Ok(Some(Sentence::Add(row, value))),
-        "need" => Ok(Some(Sentence::Need(row, value))),
-        _ => Ok(None),
+        "write" => Some(Sentence::Write(row, value)),
+        "add" => Some(Sentence::Add(row, value)),
+        "need" => Some(Sentence::Need(row, value)),
+        _ => None,
     }
 }
 
 /// The call that catches a class.
-fn with_catch(
-    alloc: Global,
-    verb: &str,
-    object: &str,
-    word: &str,
-    class: &str,
-) -> Result<Option<Sentence>, NoMemory>
-    ensures { IfOk result (λ said. said ≡ caught verb.now object.now word.now class.now) }
+fn with_catch<'a>(verb: &str, object: &'a str, word: &str, class: &'a str) -> Option<Sentence<'a>>
+    ensures { result ≡ caught verb.now object.now word.now class.now }
 {
     if word != "catch" {
-        return Ok(None);
+        return None;
     }
-    match class_in(alloc, class)? {
-        Some(class) => catching(alloc, verb, object, class),
-        None => Ok(None),
+    match class_in(class) {
+        Some(class) => catching(verb, object, class),
+        None => None,
     }
 }
 
-fn catching(
-    alloc: Global,
-    verb: &str,
-    object: &str,
-    class: Name,
-) -> Result<Option<Sentence>, NoMemory>
-    ensures { IfOk result (λ said. said ≡ catching_of verb.now object.now class) }
+fn catching<'a>(verb: &str, object: &'a str, class: Word<'a>) -> Option<Sentence<'a>>
+    ensures { result ≡ catching_of verb.now object.now class.entry }
 {
     match verb {
-        "call" => call(alloc, object, Some(class)),
-        "this" => this(alloc, object, Some(class)),
-        _ => Ok(None),
+        "call" => call(object, Some(class)),
+        "this" => this(object, Some(class)),
+        _ => None,
     }
 }
 
-fn call(alloc: Global, object: &str, catch: Option<Name>) -> Result<Option<Sentence>, NoMemory>
-    ensures { IfOk result (λ said. said ≡ option_map (call_of catch) (method_of object.now)) }
+fn call<'a>(object: &'a str, catch: Option<Word<'a>>) -> Option<Sentence<'a>>
+    ensures { result ≡ option_map (call_of catch.entry) (method_of object.now) }
 {
-    let Some((bean, method)) = method_in(alloc, object)? else {
-        return Ok(None);
+    let Some((bean, method)) = method_in(object) else {
+        return None;
     };
-    Ok(Some(Sentence::Call {
+    Some(Sentence::Call {
         bean,
         method,
         catch,
-    }))
+    })
 }
 
-fn this(alloc: Global, object: &str, catch: Option<Name>) -> Result<Option<Sentence>, NoMemory>
-    ensures { IfOk result (λ said. said ≡ option_map (λ m. SentenceData.This m catch) (name_of object.now)) }
+fn this<'a>(object: &'a str, catch: Option<Word<'a>>) -> Option<Sentence<'a>>
+    ensures { result ≡ option_map (λ m. SentenceData.This m catch.entry) (name_of object.now) }
 {
-    let Some(method) = name_in(alloc, object)? else {
-        return Ok(None);
+    let Some(method) = name_in(object) else {
+        return None;
     };
-    Ok(Some(Sentence::This { method, catch }))
+    Some(Sentence::This { method, catch })
 }
 
 // ---- what stands for a word
 
-fn name_in(alloc: Global, text: &str) -> Result<Option<Name>, NoMemory>
-    ensures { IfOk result (λ name. name ≡ name_of text.now) }
+fn name_in(text: &str) -> Option<Word<'_>>
+    ensures { result ≡ name_of text.now }
 {
     if !is_name(text) {
-        return Ok(None);
+        return None;
     }
-    Ok(Some(Name::new(alloc, text)?))
+    Some(Word { text })
 }
 
-fn class_in(alloc: Global, text: &str) -> Result<Option<Name>, NoMemory>
-    ensures { IfOk result (λ class. class ≡ class_of text.now) }
+fn class_in(text: &str) -> Option<Word<'_>>
+    ensures { result ≡ class_of text.now }
 {
     if !may_name_class(text) {
-        return Ok(None);
+        return None;
     }
-    Ok(Some(Name::new(alloc, text)?))
+    Some(Word { text })
 }
 
-fn pattern_in(alloc: Global, text: &str) -> Result<Option<Name>, NoMemory>
-    ensures { IfOk result (λ pattern. pattern ≡ pattern_of text.now) }
+fn pattern_in(text: &str) -> Option<Word<'_>>
+    ensures { result ≡ pattern_of text.now }
 {
     if !is_pattern(text) {
-        return Ok(None);
+        return None;
     }
-    Ok(Some(Name::new(alloc, text)?))
+    Some(Word { text })
 }
 
 /// The bean and the method that `BEAN.METHOD` names.
-#[tactic(auto, using(crate::proofs::SentenceLaws::no_method, crate::proofs::SentenceLaws::two_parts))]
-pub fn method_in(alloc: Global, text: &str) -> Result<Option<(Name, Name)>, NoMemory>
-    ensures { IfOk result (λ method. method ≡ method_of text.now) }
+pub fn method_in(text: &str) -> Option<(Word<'_>, Word<'_>)>
+    ensures { result ≡ method_of text.now }
 {
-    let parts = split_parts(alloc, text)?;
-    if parts.len() != 2 {
-        return Ok(None);
+    let Some((bean, rest)) = first_part(text) else {
+        return None;
+    };
+    match first_part(rest) {
+        Some(_) => None,
+        None => two_names(bean, rest),
     }
-    let Some(bean) = name_in(alloc, parts[0])? else {
-        return Ok(None);
-    };
-    let Some(method) = name_in(alloc, parts[1])? else {
-        return Ok(None);
-    };
-    Ok(Some((bean, method)))
 }
 
-/// The parts of a text between dots.
-fn split_parts<'a>(alloc: Global, text: &'a str) -> Result<Vec<&'a str>, AllocError>
-    ensures { IfOk result (λ parts. map (λ part. part.now) parts.items ≡ parts_of text.now) }
+fn two_names<'a>(bean: &'a str, method: &'a str) -> Option<(Word<'a>, Word<'a>)>
+    ensures { result ≡ option_and_then (λ b. option_map (λ m. (b, m)) (name_of method.now)) (name_of bean.now) }
 {
-    text.split('.').collect(alloc)
+    let Some(bean) = name_in(bean) else {
+        return None;
+    };
+    let Some(method) = name_in(method) else {
+        return None;
+    };
+    Some((bean, method))
 }
 
 // ---- rules
 
+/// The rule that a text is.
+pub fn rule_in(text: &str) -> Option<RuleSentence<'_>>
+    ensures { result ≡ rule_of text.now }
+{
+    let Some((verb, rest)) = first_word(text) else {
+        return None;
+    };
+    match first_word(rest) {
+        Some(_) => None,
+        None => rule_about(verb, rest),
+    }
+}
+
 /// The rule of a word and the classes that it is about.
-fn rule_about(alloc: Global, verb: &str, object: &str) -> Result<Option<RuleSentence>, NoMemory>
-    ensures { IfOk result (λ said. said ≡ option_and_then (rule_with object.now) (decision_of verb.now)) }
+fn rule_about<'a>(verb: &str, object: &'a str) -> Option<RuleSentence<'a>>
+    ensures { result ≡ option_and_then (rule_with object.now) (decision_of verb.now) }
 {
     let Some(rollback) = decision_in(verb) else {
-        return Ok(None);
+        return None;
     };
-    let Some(by) = matched_in(alloc, object)? else {
-        return Ok(None);
+    let Some(by) = matched_in(object) else {
+        return None;
     };
-    Ok(Some(RuleSentence { rollback, by }))
+    Some(RuleSentence { rollback, by })
 }
 
 /// What a rule's first word decides: whether to roll back.
@@ -270,17 +293,17 @@ fn decision_in(verb: &str) -> Option<bool>
 }
 
 /// The classes that a rule names: `~PATTERN`, or a class.
-fn matched_in(alloc: Global, text: &str) -> Result<Option<Matched>, NoMemory>
-    ensures { IfOk result (λ matched. matched ≡ matched_of text.now) }
+fn matched_in(text: &str) -> Option<Matched<'_>>
+    ensures { result ≡ matched_of text.now }
 {
     match text.strip_prefix('~') {
-        Some(pattern) => Ok(pattern_in(alloc, pattern)?.map(Matched::Pattern)),
-        None => by_class(alloc, text),
+        Some(pattern) => pattern_in(pattern).map(Matched::Pattern),
+        None => by_class(text),
     }
 }
 
-fn by_class(alloc: Global, text: &str) -> Result<Option<Matched>, NoMemory>
-    ensures { IfOk result (λ matched. matched ≡ option_map MatchedData.Class (class_of text.now)) }
+fn by_class(text: &str) -> Option<Matched<'_>>
+    ensures { result ≡ option_map MatchedData.Class (class_of text.now) }
 {
-    Ok(class_in(alloc, text)?.map(Matched::Class))
+    class_in(text).map(Matched::Class)
 }

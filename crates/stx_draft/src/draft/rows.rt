@@ -65,7 +65,7 @@ fn add_body(alloc: Global, rows: &mut Numbers, table: &Table, key: &str) -> Resu
     add_rows(alloc, rows, sentences.as_slice())
 }
 
-fn add_rows(alloc: Global, rows: &mut Numbers, sentences: &[Sentence]) -> Result<(), NoMemory>
+fn add_rows(alloc: Global, rows: &mut Numbers, sentences: &[Sentence<'_>]) -> Result<(), NoMemory>
     ensures { OnOk result (rows.new ≡ with_rows rows.old sentences.now) }
 {
     for sentence in sentences {
@@ -75,7 +75,7 @@ fn add_rows(alloc: Global, rows: &mut Numbers, sentences: &[Sentence]) -> Result
 }
 
 /// Adds the row that a statement names, if it names one.
-fn add_row(alloc: Global, rows: &mut Numbers, sentence: &Sentence) -> Result<(), NoMemory>
+fn add_row(alloc: Global, rows: &mut Numbers, sentence: &Sentence<'_>) -> Result<(), NoMemory>
     ensures { OnOk result (rows.new ≡ fold with_name rows.old (row_said sentence.now)) }
 {
     match sentence {

@@ -11,13 +11,17 @@ use stx_scenario::{List, NoMemory, Stmt};
 use toml::Table;
 
 /// The statements under a key, by the names in them.
-pub fn sentences_at(alloc: Global, table: &Table, key: &str) -> Result<Vec<Sentence>, NoMemory>
+pub fn sentences_at<'a>(
+    alloc: Global,
+    table: &'a Table,
+    key: &str,
+) -> Result<Vec<Sentence<'a>>, NoMemory>
     ensures { IfOk result (λ sentences. sentences.items ≡ sentences_of key.now (table_view table.now)) }
 {
     let texts = texts_at(alloc, table, key)?;
     let mut sentences = Vec::new(alloc);
     for text in texts.as_slice() {
-        if let Some(sentence) = sentence_in(alloc, text)? {
+        if let Some(sentence) = sentence_in(text) {
             sentences.push(sentence)?;
         }
     }
@@ -47,7 +51,7 @@ fn stated(
     alloc: Global,
     names: &Numbered,
     bean: Option<&str>,
-    sentence: &Sentence,
+    sentence: &Sentence<'_>,
 ) -> Result<Stmt, NoMemory>
     ensures { IfOk result (λ statement. statement ≡ stated_of names.now (option_copied bean.entry) sentence.now) }
 {

@@ -127,7 +127,7 @@ impl Drafted for Calls {
 fn called(alloc: Global, names: &Numbered, text: &str) -> Result<MethodNo, NoMemory>
     ensures { IfOk result (λ number. number ≡ called_number names.now (method_of text.now)) }
 {
-    match method_in(alloc, text)? {
+    match method_in(text) {
         Some((bean, method)) => names.method_no(alloc, bean.as_str(), method.as_str()),
         None => Ok(MethodNo(NOTHING)),
     }

@@ -6,7 +6,7 @@ ghost use Rattle.stx_draft.specs.Draft.{tx_in as tx_of_table, tx_at as tx_of, ru
 use crate::parts::{flag_at, table_at, text_at, texts_at};
 use std::alloc::Global;
 use stx_names::{Matched, Numbered, RuleSentence, propagation_in, rule_in};
-use stx_scenario::{List, NoMemory, Propagation, Rule, RuleBy, TxAttr};
+use stx_scenario::{List, Name, NoMemory, Propagation, Rule, RuleBy, TxAttr};
 use toml::Table;
 
 /// The attribute of a bean or a method, which may be missing.
@@ -36,28 +36,27 @@ fn rules_in(alloc: Global, names: &Numbered, table: &Table) -> Result<List<Rule>
     let texts = texts_at(alloc, table, "rules")?;
     let mut rules = List::new(alloc);
     for text in texts.as_slice() {
-        if let Some(rule) = rule_in(alloc, text)? {
-            rules.push(rule_of(names, rule))?;
+        if let Some(rule) = rule_in(text) {
+            rules.push(rule_of(alloc, names, &rule)?)?;
         }
     }
     Ok(rules)
 }
 
-fn rule_of(names: &Numbered, rule: RuleSentence) -> Rule
-    ensures { result ≡ rule_numbered names.now rule }
+fn rule_of(alloc: Global, names: &Numbered, rule: &RuleSentence<'_>) -> Result<Rule, NoMemory>
+    ensures { IfOk result (λ numbered. numbered ≡ rule_numbered names.now rule.now) }
 {
-    let RuleSentence { rollback, by } = rule;
-    Rule {
-        rollback,
-        by: matched_by(names, by),
-    }
+    Ok(Rule {
+        rollback: rule.rollback,
+        by: matched_by(alloc, names, &rule.by)?,
+    })
 }
 
-fn matched_by(names: &Numbered, matched: Matched) -> RuleBy
-    ensures { result ≡ matched_numbered names.now matched }
+fn matched_by(alloc: Global, names: &Numbered, matched: &Matched<'_>) -> Result<RuleBy, NoMemory>
+    ensures { IfOk result (λ by. by ≡ matched_numbered names.now matched.now) }
 {
-    match matched {
+    Ok(match matched {
         Matched::Class(class) => RuleBy::Class(names.class_no(class.as_str())),
-        Matched::Pattern(pattern) => RuleBy::Pattern(pattern),
-    }
+        Matched::Pattern(pattern) => RuleBy::Pattern(Name::new(alloc, pattern.as_str())?),
+    })
 }

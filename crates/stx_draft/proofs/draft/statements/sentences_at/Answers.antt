@@ -7,15 +7,15 @@ use Rattle.stx_draft.proofs.draft.statements.sentences_at.Goals.{in-Some+in_ok-p
 
 pub loop-text-preserved : goal.loop-text-preserved
 loop-text-preserved c =
-    elim c.match-branch-3.branch [
+    elim c.match-sentence_in.branch [
       | in-Some+in_ok-push w ↦
           rw (w.sentences-is, w.in_ok-push.ensures.items)
           (kept_more (λ text. text.now) sentence_in c.as_slice-text-items.result.now c.loop-text.text-index _ _ w.in-Some.sentence _ c.loop-text-test.true refl
-          (sym c.in_ok-sentence.ensures ∙ w.in-Some.is) c.loop-text.invariant)
+          (sym c.sentence_in.ensures ∙ w.in-Some.is) c.loop-text.invariant)
       | in_default w ↦
           rw w.sentences-is
           (kept_same (λ text. text.now) sentence_in c.as_slice-text-items.result.now c.loop-text.text-index _ _ _ c.loop-text-test.true refl
-          (sym c.in_ok-sentence.ensures ∙ w.in_default.is) c.loop-text.invariant)
+          (sym c.sentence_in.ensures ∙ w.in_default.is) c.loop-text.invariant)
     ]
 
 pub returns : goal.returns

@@ -4,19 +4,19 @@ use Rattle.stx_names.specs.Sentences.{rule_in}
 use Rattle.stx_draft.specs.Draft.{rule_of}
 use Rattle.stx_draft.proofs.PartLaws.{made_more, made_same, kept_all}
 use Rattle.stx_draft.proofs.draft.tx.rules_in.Goals as goal
-use Rattle.stx_draft.proofs.draft.tx.rules_in.Goals.{in-Some+in_ok-push, in_default}
+use Rattle.stx_draft.proofs.draft.tx.rules_in.Goals.{in-Some+in_ok-rule_of+in_ok-push, in_default}
 
 pub loop-text-preserved : goal.loop-text-preserved
 loop-text-preserved c =
-    elim c.match-branch-3.branch [
-      | in-Some+in_ok-push w ↦
-          rw (w.rules-is, w.in_ok-push.ensures.ok, w.rule_of.ensures)
+    elim c.match-rule_in.branch [
+      | in-Some+in_ok-rule_of+in_ok-push w ↦
+          rw (w.rules-is, w.in_ok-push.ensures.ok, w.in_ok-rule_of.ensures)
           (made_more (λ text. text.now) rule_in c.as_slice-text-items.result.now c.loop-text.text-index (rule_of c.args.names.now) _ _ _ w.in-Some.rule c.loop-text-test.true refl
-          (sym c.in_ok-rule.ensures ∙ w.in-Some.is) c.loop-text.invariant)
+          (sym c.rule_in.ensures ∙ w.in-Some.is) c.loop-text.invariant)
       | in_default w ↦
           rw w.rules-is
           (made_same (λ text. text.now) rule_in c.as_slice-text-items.result.now c.loop-text.text-index (rule_of c.args.names.now) _ _ _ c.loop-text-test.true refl
-          (sym c.in_ok-rule.ensures ∙ w.in_default.is) c.loop-text.invariant)
+          (sym c.rule_in.ensures ∙ w.in_default.is) c.loop-text.invariant)
     ]
 
 pub returns : goal.returns
