@@ -19,4 +19,5 @@ pub mod NoteRows
 pub mod ReportRows
 pub mod SerialRows
 pub mod SerialCounterexample
+pub mod WorkedRows
 pub mod FreshLaw
