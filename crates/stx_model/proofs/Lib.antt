@@ -19,6 +19,7 @@ pub mod NoteRows
 pub mod ReportRows
 pub mod SerialRows
 pub mod SerialCounterexample
+pub mod WorkedRows
 pub mod FreshLaw
 pub mod Apart
 pub mod TooLate

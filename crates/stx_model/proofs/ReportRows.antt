@@ -1,13 +1,12 @@
 -- Worked rows whole: the histories are legal entry by entry, each client's lines are its script over its own notes, and
 -- this is the printed report.
-use Rattle.std.proofs.Common.{◌≡◌, ℕ, zero, suc, ◌<◌, ℤ, pos, true, false, List, [], ◌∷◌, map, length, Option, Some, None, refl, sym, ap, subst, arith, lit<}
+use Rattle.std.proofs.Common.{◌≡◌, ℕ, zero, suc, ◌<◌, ℤ, pos, List, [], ◌∷◌, map, Option, Some, None, refl, sym, ap, subst, arith, lit<}
 use Rattle.std.specs.Prelude.{codes, slice_get}
 use Rattle.std.specs.List.{filter_map}
 use Rattle.std.proofs.lemmas.Cmp.{nat_cmp_total}
 use Rattle.std.specs.Ordering.{nat_cmp}
 use Rattle.std.specs.Fmt.{digits}
 use Rattle.std.specs.FinMap.{get-insert, get-empty}
-use Rattle.stx_scenario.specs.declared.scenario.Scenario.{Scenario}
 use Rattle.stx_base.specs.declared.facts.StoreFacts.{StoreFacts}
 use Rattle.stx_base.specs.declared.history.Access.{Access}
 use Rattle.stx_base.specs.declared.history.Answer.{Answer}
@@ -27,7 +26,7 @@ use Rattle.stx_model.specs.Meanings.{state_of, stop_of}
 use Rattle.stx_model.specs.Faithful.{Faithful, IsPlayedOut, IsBalanced, connection_bracket}
 use Rattle.stx_model.proofs.SerialLaw.{journal_serial}
 use Rattle.stx_model.proofs.Small.{a, k, pool_note, store_note, Says}
-use Rattle.stx_model.proofs.FlatRows.{writes_and_reads, written_and_read, rivals, written, refused_beside, read_after, a_transaction_writes_reads_and_commits}
+use Rattle.stx_model.proofs.FlatRows.{writes_and_reads, written_and_read, rivals, written, refused_beside, a_transaction_writes_reads_and_commits}
 use Rattle.stx_model.proofs.ShopRow.{shop, placed}
 
 -- ---- histories

@@ -21,7 +21,7 @@ use Rattle.stx_model.specs.Scopes.{Scope, acts, completes}
 use Rattle.stx_model.specs.Opening.{opening}
 use Rattle.stx_model.specs.Ending.{ending, completion}
 use Rattle.stx_model.specs.Listeners.{Register, RunNow, Skip, deeds, runs_in}
-use Rattle.stx_model.proofs.Small.{m, e, listener_no, s, t, settings, last_of_all, method, sync, listener, plainly, with_transaction, pool_note, store_note}
+use Rattle.stx_model.proofs.Small.{m, e, listener_no, s, t, settings, last_of_all, sync, listener, plainly, with_transaction, pool_note, store_note}
 use Rattle.stx_model.proofs.Traces.{leave, leave_throws, throw, mark_global, give, bind, resume, back_to, release, commit, rollback, before_commit, before_completion, after_commit, after_completion_committed, after_completion_rolled_back}
 
 -- ---- openings

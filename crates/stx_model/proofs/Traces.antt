@@ -1,5 +1,5 @@
 -- The lines of a trace by their words, so that a worked row reads like its text.
-use Rattle.std.proofs.Common.{ℕ, ℤ, Bool, true, false, Option, Some, None}
+use Rattle.std.proofs.Common.{ℕ, ℤ, true, false, Option, Some, None}
 use Rattle.stx_scenario.specs.declared.numbers.ClassNo.{ClassNo}
 use Rattle.stx_scenario.specs.declared.numbers.RowNo.{RowNo}
 use Rattle.stx_scenario.specs.declared.numbers.MethodNo.{MethodNo}

@@ -1,18 +1,6 @@
-use Rattle.stx_model.proofs.Tables.{openings_in_the_mode_always}
-use Rattle.stx_model.proofs.JoinRows.{a_joined_failure_is_unexpected}
-use Rattle.stx_model.proofs.PointRows.{a_nested_commit_releases_its_savepoint}
-use Rattle.stx_model.proofs.SuspensionRows.{an_empty_pool_resumes_the_outer_transaction}
-use Rattle.stx_model.proofs.CallbackRows.{lower_order_values_come_first_and_ties_as_registered}
-use Rattle.stx_model.proofs.ListenerRows.{an_after_commit_listener_runs_after_completion_and_what_it_throws_is_swallowed}
-use Rattle.stx_model.proofs.PlainRows.{a_call_of_the_same_bean_is_not_intercepted}
-use Rattle.stx_model.proofs.FlatRows.{a_transaction_writes_reads_and_commits}
-use Rattle.stx_model.proofs.NoteRows.{a_fresh_scope_first_wants_a_connection}
-use Rattle.stx_model.proofs.ShopRow.{an_order_is_placed}
-use Rattle.stx_model.proofs.ReportRows.{one_method_printed}
-use Rattle.stx_model.proofs.SerialRows.{kept_locks_serial}
-use Rattle.stx_model.proofs.SerialCounterexample.{store_refuses_it}
 use Rattle.stx_model.proofs.SerialLaw.{journal_serial}
+use Rattle.stx_model.proofs.WorkedRows.{rows_compute}
 use Rattle.stx_model.proofs.laws.journal_is_serial.Goals as goal
 
 pub returns : goal.returns
-returns c = journal_serial
+returns c = let rows = rows_compute in journal_serial
