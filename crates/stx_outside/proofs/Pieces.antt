@@ -1,16 +1,22 @@
 -- What two pieces that are read or written one after the other do to the bytes that are told.
-use Rattle.std.proofs.Common.{ℕ, ◌+◌, ◌<◌, ◌≤◌, List, ◌++◌, length, Option, Some, None, ◌∙◌, sym, ap, append_assoc, arith, length-append}
-use Rattle.stx_outside.specs.Streams.{GainsEnd, LosesFront, LosesMore, LosesWithin}
+use Rattle.std.proofs.Common.{◌≡◌, ℕ, ◌+◌, ◌<◌, ◌≤◌, List, ◌++◌, length, Option, Some, None, ◌∙◌, sym, ap, append_assoc, arith, length-append}
+use Rattle.stx_outside.specs.Streams.{OfTold, GainsEnd, LosesFront, LosesMore, LosesWithin}
+
+-- what holds of two steps, one after the other
+OfTold-then : (P Q R : List ℕ → List ℕ → Type 0) → ((a b c : List ℕ) → P a b → Q b c → R a c) → (before between now : Option (List ℕ))
+    → OfTold P before between → OfTold Q between now → OfTold R before now
+OfTold-then P Q R both None None None first second = tt
+OfTold-then P Q R both None None (Some now) first second = absurd second
+OfTold-then P Q R both None (Some between) now first second = absurd first
+OfTold-then P Q R both (Some before) None now first second = absurd first
+OfTold-then P Q R both (Some before) (Some between) None first second = absurd second
+OfTold-then P Q R both (Some before) (Some between) (Some now) first second = both before between now first second
 
 -- two pieces that went from the front one after the other are one
 pub LosesFront-append : (before between now : Option (List ℕ)) (front piece : List ℕ) → LosesFront before between front → LosesFront between now piece → LosesFront before now (front ++ piece)
-LosesFront-append None None None front piece first second = tt
-LosesFront-append None None (Some now) front piece first second = absurd second
-LosesFront-append None (Some between) now front piece first second = absurd first
-LosesFront-append (Some before) None now front piece first second = absurd first
-LosesFront-append (Some before) (Some between) None front piece first second = absurd second
-LosesFront-append (Some before) (Some between) (Some now) front piece first second =
-    first ∙ ap (λ rest. front ++ rest) second ∙ sym (append_assoc front piece now)
+LosesFront-append before between now front piece first second =
+    OfTold-then (λ b n. b ≡ front ++ n) (λ b n. b ≡ piece ++ n) (λ b n. b ≡ (front ++ piece) ++ n)
+    (λ a b c first second. first ∙ ap (λ rest. front ++ rest) second ∙ sym (append_assoc front piece c)) before between now first second
 
 -- the second piece goes past the limit
 pub LosesMore-piece : (limit : ℕ) (before between now : Option (List ℕ)) (front piece : List ℕ) → LosesFront before between front → LosesFront between now piece → limit < length front + length piece → LosesMore limit before now
@@ -24,10 +30,6 @@ LosesWithin-piece limit before between now front piece first second within =
 
 -- two pieces that came to the end one after the other are one
 pub GainsEnd-append : (before between now : Option (List ℕ)) (end piece : List ℕ) → GainsEnd before between end → GainsEnd between now piece → GainsEnd before now (end ++ piece)
-GainsEnd-append None None None end piece first second = tt
-GainsEnd-append None None (Some now) end piece first second = absurd second
-GainsEnd-append None (Some between) now end piece first second = absurd first
-GainsEnd-append (Some before) None now end piece first second = absurd first
-GainsEnd-append (Some before) (Some between) None end piece first second = absurd second
-GainsEnd-append (Some before) (Some between) (Some now) end piece first second =
-    second ∙ ap (λ front. front ++ piece) first ∙ append_assoc before end piece
+GainsEnd-append before between now end piece first second =
+    OfTold-then (λ b n. n ≡ b ++ end) (λ b n. n ≡ b ++ piece) (λ b n. n ≡ b ++ (end ++ piece))
+    (λ a b c first second. second ∙ ap (λ front. front ++ piece) first ∙ append_assoc a end piece) before between now first second

@@ -20,19 +20,20 @@ pub record HasCause {T E : Type 0} (before now : ℕ) (result : Result T E) : Ty
 abbrev pub TellsAlike : Option (List ℕ) → Option (List ℕ) → Type 0
 TellsAlike before now = is_some now ≡ is_some before
 
+-- this holds of the bytes before and now, where both are told; one of them alone never is
+abbrev pub OfTold : (List ℕ → List ℕ → Type 0) → Option (List ℕ) → Option (List ℕ) → Type 0
+OfTold P None None = ⊤
+OfTold P None (Some now) = ⊥
+OfTold P (Some before) None = ⊥
+OfTold P (Some before) (Some now) = P before now
+
 -- these bytes went from the front
 abbrev pub LosesFront : Option (List ℕ) → Option (List ℕ) → List ℕ → Type 0
-LosesFront None None front = ⊤
-LosesFront None (Some now) front = ⊥
-LosesFront (Some before) None front = ⊥
-LosesFront (Some before) (Some now) front = before ≡ front ++ now
+LosesFront before now front = OfTold (λ b n. b ≡ front ++ n) before now
 
 -- these were all the bytes, and they are gone
 abbrev pub LosesAll : Option (List ℕ) → Option (List ℕ) → List ℕ → Type 0
-LosesAll None None all = ⊤
-LosesAll None (Some now) all = ⊥
-LosesAll (Some before) None all = ⊥
-LosesAll (Some before) (Some now) all = (before ≡ all) × (now ≡ [])
+LosesAll before now all = OfTold (λ b n. (b ≡ all) × (n ≡ [])) before now
 
 -- more bytes than the limit went from the front
 abbrev pub LosesMore : ℕ → Option (List ℕ) → Option (List ℕ) → Type 0
@@ -49,10 +50,7 @@ HasEnded (Some now) = now ≡ []
 
 -- these bytes came to the end
 abbrev pub GainsEnd : Option (List ℕ) → Option (List ℕ) → List ℕ → Type 0
-GainsEnd None None end = ⊤
-GainsEnd None (Some now) end = ⊥
-GainsEnd (Some before) None end = ⊥
-GainsEnd (Some before) (Some now) end = now ≡ before ++ end
+GainsEnd before now end = OfTold (λ b n. n ≡ b ++ end) before now
 
 -- a prefix of these bytes came to the end
 abbrev pub GainsPrefix : Option (List ℕ) → Option (List ℕ) → List ℕ → Type 0

@@ -11,8 +11,7 @@ use std::marker::Model;
 #[derive(Debug, Drop)]
 pub struct StdSource<R> {
     input: R,
-    // The tests read it.
-    pub(crate) faults: u64,
+    faults: u64,
 }
 
 impl<R> Model for StdSource<R> {
@@ -49,8 +48,7 @@ impl<R: Read> Source for StdSource<R> {
 #[derive(Debug, Drop)]
 pub struct StdSink<W> {
     output: W,
-    // The tests read it.
-    pub(crate) faults: u64,
+    faults: u64,
 }
 
 impl<W> Model for StdSink<W> {

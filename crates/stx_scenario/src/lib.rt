@@ -7,6 +7,7 @@ mod limits;
 mod list;
 mod memory;
 mod name;
+mod named;
 mod numbers;
 mod roomy;
 mod scenario;
@@ -27,6 +28,7 @@ pub use limits::{
 pub use list::List;
 pub use memory::NoMemory;
 pub use name::Name;
+pub use named::HasName;
 pub use numbers::{BeanNo, ClassNo, EventNo, ListenerNo, MethodNo, RowNo, SyncNo};
 pub use roomy::Roomy;
 pub use scenario::{

@@ -1,65 +1,68 @@
 // The names that lines print, looked up by number; where nothing has the number the name is empty.
-ghost use Rattle.std.specs.Prelude.{◌≡◌, IfOk, string_bytes};
+ghost use Rattle.std.specs.Prelude.{◌≡◌, [], IfOk, string_bytes, slice_get, unwrap_or, option_map};
 ghost use Rattle.stx_base.specs.Lines as texts;
 
 use std::alloc::Global;
 use stx_base::Label;
 use stx_scenario::{
-    BeanNo, ClassNo, EventNo, ListenerNo, MethodNo, NoMemory, RowNo, Scenario, SyncNo,
+    BeanNo, ClassNo, EventNo, HasName, List, ListenerNo, MethodNo, Name, NoMemory, RowNo, Scenario,
+    SyncNo,
 };
+
+/// The name of the part with this number, in a list of them.
+fn name_at<T: HasName>(parts: &List<T>, number: u32) -> &str
+    ensures { result.now ≡ unwrap_or (option_map T.name_of (slice_get parts.now number)) [] }
+{
+    match parts.get(number as usize) {
+        Some(part) => part.name(),
+        None => "",
+    }
+}
+
+/// The name with this number, in a list of names.
+fn text_at(names: &List<Name>, number: u32) -> &str
+    ensures { result.now ≡ unwrap_or (slice_get names.now number) [] }
+{
+    match names.get(number as usize) {
+        Some(name) => name.as_str(),
+        None => "",
+    }
+}
 
 fn bean_name(scenario: &Scenario, no: BeanNo) -> &str
     ensures { result.now ≡ texts.bean_name scenario.now no }
 {
-    match scenario.beans.get(no.0 as usize) {
-        Some(bean) => bean.name.as_str(),
-        None => "",
-    }
+    name_at(&scenario.beans, no.0)
 }
 
 pub fn class_name(scenario: &Scenario, no: ClassNo) -> &str
     ensures { result.now ≡ texts.class_name scenario.now no }
 {
-    match scenario.classes.get(no.0 as usize) {
-        Some(class) => class.name.as_str(),
-        None => "",
-    }
+    name_at(&scenario.classes, no.0)
 }
 
 fn sync_name(scenario: &Scenario, no: SyncNo) -> &str
     ensures { result.now ≡ texts.sync_name scenario.now no }
 {
-    match scenario.syncs.get(no.0 as usize) {
-        Some(sync) => sync.name.as_str(),
-        None => "",
-    }
+    name_at(&scenario.syncs, no.0)
 }
 
 pub fn listener_name(scenario: &Scenario, no: ListenerNo) -> &str
     ensures { result.now ≡ texts.listener_name scenario.now no }
 {
-    match scenario.listeners.get(no.0 as usize) {
-        Some(listener) => listener.name.as_str(),
-        None => "",
-    }
+    name_at(&scenario.listeners, no.0)
 }
 
 pub fn event_name(scenario: &Scenario, no: EventNo) -> &str
     ensures { result.now ≡ texts.event_name scenario.now no }
 {
-    match scenario.events.get(no.0 as usize) {
-        Some(event) => event.as_str(),
-        None => "",
-    }
+    text_at(&scenario.events, no.0)
 }
 
 pub fn row_name(scenario: &Scenario, no: RowNo) -> &str
     ensures { result.now ≡ texts.row_name scenario.now no }
 {
-    match scenario.row_names.get(no.0 as usize) {
-        Some(row) => row.as_str(),
-        None => "",
-    }
+    text_at(&scenario.row_names, no.0)
 }
 
 /// The name of a registration's synchronisation or listener.
