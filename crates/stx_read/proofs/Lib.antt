@@ -1,2 +1,4 @@
 pub mod ShapeLaws
 pub mod ReadLaws
+pub mod AcceptedLaws
+pub mod QuietDrafts

@@ -1,9 +1,9 @@
 -- Lists of faults of which none is of the stages that are asked for, and what that says of the places.
-use Rattle.std.proofs.Common.{◌≡◌, ℕ, zero, suc, ◌+◌, ◌<◌, ◌≤◌, Bool, true, false, ◌&&◌, ◌||◌, cond, nat_le, List, [], ◌∷◌, ◌++◌, Option, Some, None, length, get_or, refl, sym, ◌∙◌, ap, subst, arith}
+use Rattle.std.proofs.Common.{◌≡◌, ℕ, zero, suc, ◌+◌, ◌<◌, ◌≤◌, Bool, true, false, ◌&&◌, ◌||◌, cond, nat_lt, nat_le, List, [], ◌∷◌, ◌++◌, Option, Some, None, length, map, get_or, refl, sym, ◌∙◌, ap, subst, arith}
 use Rattle.std.specs.List.{All, find, list_all}
 use Rattle.std.specs.Option.{option_map}
 use Rattle.std.proofs.lemmas.Bool.{false≢true, leb-true}
-use Rattle.std.proofs.lemmas.List.Elements.{All-nil}
+use Rattle.std.proofs.lemmas.List.Elements.{All-nil, All-head, All-tail}
 use Rattle.std.proofs.lemmas.Option.{none-some}
 use Rattle.stx_refusals.specs.declared.fault.Fault.{Fault}
 use Rattle.stx_refusals.specs.declared.fault.ReadFault.{ReadFault}
@@ -94,7 +94,7 @@ pub quiet_first : (stage : Stage) (faults : List Fault) → first_at stage fault
 unfolding first_at
 quiet_first stage faults h = record { none = mapped_none (λ fault. refusal_at stage fault.path) (find (λ fault. is_stage stage fault.stage) faults) h }
 
-or_quiet : (p q : Stage → Bool) (faults : List Fault) → Quiet p faults → Quiet q faults → Quiet (λ stage. p stage || q stage) faults
+pub or_quiet : (p q : Stage → Bool) (faults : List Fault) → Quiet p faults → Quiet q faults → Quiet (λ stage. p stage || q stage) faults
 or_quiet p q [] one two = record { none = refl }
 or_quiet p q (x ∷ xs) one two =
     let here = past (p x.stage) x (find (λ fault. p fault.stage) xs) one.none in
@@ -115,3 +115,45 @@ places_quiet faults names ranges counts words references =
     or_quiet (is_stage BadName) _ faults names
     (or_quiet (is_stage OutOfRange) _ faults ranges
     (or_quiet (is_stage TooMany) _ faults counts (or_quiet (is_stage BadWord) (is_stage UnknownRef) faults words references)))
+
+-- ---- lists that are quiet
+
+pub quiet_append : {of : Stage → Bool} (xs ys : List Fault) → Quiet of xs → Quiet of ys → Quiet of (xs ++ ys)
+quiet_append [] ys one two = two
+quiet_append {of = of} (x ∷ xs) ys one two =
+    let here = past (of x.stage) x (find (λ fault. of fault.stage) xs) one.none in
+    let rest = quiet_append {of = of} xs ys (record { none = here.1 }) two in
+    record { none = ap (λ (b : Bool). cond b (Some x) (find (λ fault. of fault.stage) (xs ++ ys))) here.0 ∙ rest.none }
+
+pub quiet_unless : {of : Stage → Bool} (path : List ℕ) (b : Bool) (stage : Stage) → b ≡ true → Quiet of (refused path (unless b stage))
+quiet_unless path true stage passed = record { none = refl }
+quiet_unless path false stage passed = absurd (false≢true passed)
+
+-- a stage that isn't asked for
+pub quiet_other : {of : Stage → Bool} (path : List ℕ) (b : Bool) (stage : Stage) → of stage ≡ false → Quiet of (refused path (unless b stage))
+quiet_other path true stage other = record { none = refl }
+quiet_other path false stage other =
+    record { none = ap (λ (c : Bool). cond c (Some (record { stage = stage; path = path })) None) other }
+
+pub quiet_few : {of : Stage → Bool} (most : ℕ) (path : List ℕ) (n : ℕ) → n ≤ most → Quiet of (count_faults most path n)
+quiet_few {of = of} most path n few =
+    let small : nat_lt n 0 ≡ false = grind arith in
+    let fits : nat_le n most ≡ true = grind arith in
+    subst (λ (b : Bool). Quiet of (refused path (cond b (Some OutOfRange) (unless (nat_le n most) TooMany)))) (sym small) (quiet_unless path (nat_le n most) TooMany fits)
+
+pub quiet_mapped : {of : Stage → Bool} {A B : Type 0} (P : A → Type 0) (f : A → B) (F : ℕ → B → List Fault) (n : ℕ) (xs : List A)
+    → ((k : ℕ) (x : A) → P x → Quiet of (F k (f x))) → All P xs → Quiet of (each_from F n (map f xs))
+quiet_mapped P f F n [] holds all = record { none = refl }
+quiet_mapped {of = of} P f F n (x ∷ xs) holds all =
+    quiet_append (F n (f x)) (each_from F (n + 1) (map f xs)) (holds n x (All-head P x xs all))
+    (quiet_mapped {of = of} P f F (n + 1) xs holds (All-tail P x xs all))
+
+pub quiet_listed : {of : Stage → Bool} {A : Type 0} (P : A → Type 0) (F : ℕ → A → List Fault) (n : ℕ) (xs : List A)
+    → ((k : ℕ) (x : A) → P x → Quiet of (F k x)) → All P xs → Quiet of (each_from F n xs)
+quiet_listed P F n [] holds all = record { none = refl }
+quiet_listed {of = of} P F n (x ∷ xs) holds all =
+    quiet_append (F n x) (each_from F (n + 1) xs) (holds n x (All-head P x xs all)) (quiet_listed {of = of} P F (n + 1) xs holds (All-tail P x xs all))
+
+pub first_none : (stage : Stage) (faults : List Fault) → Quiet (is_stage stage) faults → first_at stage faults ≡ None
+unfolding first_at
+first_none stage faults q = ap (option_map (λ fault. refusal_at stage fault.path)) q.none
