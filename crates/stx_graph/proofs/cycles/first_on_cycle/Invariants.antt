@@ -1,6 +1,5 @@
 use Rattle.stx_base.specs.Weight.{HasNoCycle}
 use Rattle.stx_graph.specs.inner.Rows.{next_in}
-use Rattle.stx_graph.specs.inner.Cycles.{HasNoCycle}
 use Rattle.stx_graph.proofs.cycles.first_on_cycle.Given as goal
 
 abbrev pub invariant-loop-number : goal.invariant-loop-number
