@@ -2,3 +2,4 @@ pub mod ShapeLaws
 pub mod ReadLaws
 pub mod AcceptedLaws
 pub mod QuietDrafts
+pub mod NoDuplicates

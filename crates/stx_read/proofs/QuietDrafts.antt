@@ -207,12 +207,12 @@ module _ (of : Stage → Bool) (other : of UnknownRef ≡ false) (S : Scenario) 
 
 -- ---- the whole draft
 
-rows_of_draft : (root : Members) → first_rows (drafted root) ≡ (names_in root).rows
+pub rows_of_draft : (root : Members) → first_rows (drafted root) ≡ (names_in root).rows
 unfolding drafted
 rows_of_draft root =
     let all = added (flat_map row_said (sentences_of root)) (names_in root).rows (are_names-document root) in
     let valued : length (map (number_at (codes "value") (pos 0)) (tables_at (codes "rows") root)) ≡ length (names_in root).rows =
-        length-map (tables_at (codes "rows") root) (number_at (codes "value") (pos 0)) ∙ sym (length-map (tables_at (codes "rows") root) (text_at (codes "name"))) in
+    length-map (tables_at (codes "rows") root) (number_at (codes "value") (pos 0)) ∙ sym (length-map (tables_at (codes "rows") root) (text_at (codes "name"))) in
     rw (all.is, valued) (take-first (names_in root).rows all.more)
 
 classes_of_draft : (root : Members) → own_classes (drafted root) ≡ map (Draft.class_in (all_names root)) (tables_at (codes "classes") root)
@@ -279,11 +279,12 @@ module _ (of : Stage → Bool) (other : of UnknownRef ≡ false) (root : Members
   last_quiet : Quiet of (Judge.beans_faults (drafted root)) × Quiet of (Judge.methods_faults (drafted root)) × Quiet of (Judge.syncs_faults (drafted root)) × Quiet of (Judge.listeners_faults (drafted root))
   unfolding drafted
   last_quiet =
-      let names = all_names root in
-      (tables_quiet Shape.Bean 256 (codes "beans") (Draft.bean_in names) (Judge.bean_faults (drafted root)) (tables_at (codes "beans") root) doc.beans (bean_quiet of other (drafted root) names),
-      tables_quiet Shape.Method 1000 (codes "methods") (Draft.method_in_table names) (Judge.method_faults (drafted root)) (tables_at (codes "methods") root) doc.methods (method_quiet of other (drafted root) names),
-      tables_quiet Shape.Sync 256 (codes "syncs") (Draft.sync_in names) (Judge.sync_faults (drafted root)) (tables_at (codes "syncs") root) doc.syncs (sync_quiet of other (drafted root) names),
-      tables_quiet Shape.Listener 256 (codes "listeners") (Draft.listener_in names) (Judge.listener_faults (drafted root)) (tables_at (codes "listeners") root) doc.listeners (listener_quiet of other (drafted root) names))
+      let names = all_names root in (
+        tables_quiet Shape.Bean 256 (codes "beans") (Draft.bean_in names) (Judge.bean_faults (drafted root)) (tables_at (codes "beans") root) doc.beans (bean_quiet of other (drafted root) names),
+        tables_quiet Shape.Method 1000 (codes "methods") (Draft.method_in_table names) (Judge.method_faults (drafted root)) (tables_at (codes "methods") root) doc.methods (method_quiet of other (drafted root) names),
+        tables_quiet Shape.Sync 256 (codes "syncs") (Draft.sync_in names) (Judge.sync_faults (drafted root)) (tables_at (codes "syncs") root) doc.syncs (sync_quiet of other (drafted root) names),
+        tables_quiet Shape.Listener 256 (codes "listeners") (Draft.listener_in names) (Judge.listener_faults (drafted root)) (tables_at (codes "listeners") root) doc.listeners (listener_quiet of other (drafted root) names),
+      )
 
   draft_quiet : Quiet of (Judge.scenario_faults (drafted root))
   unfolding Judge.scenario_faults

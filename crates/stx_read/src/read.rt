@@ -6,7 +6,7 @@ ghost use Rattle.stx_read.specs.Reading.{scenario_of};
 
 use std::alloc::Global;
 use stx_draft::{document_of, drafted, refused_in};
-use stx_judge::{judged, unknown_reference};
+use stx_judge::looked_up_fault;
 use stx_refusals::ReadFault;
 use stx_scenario::Scenario;
 
@@ -27,11 +27,7 @@ pub fn read_scenario(alloc: Global, bytes: &[u8]) -> Result<Scenario, ReadFault>
         return Err(fault);
     }
     let scenario = drafted(alloc, &root)?;
-    // before all else that is judged: methods of beans that aren't there are all of one bean by its number
-    if let Some(fault) = unknown_reference(alloc, &scenario)? {
-        return Err(fault);
-    }
-    match judged(alloc, &scenario)? {
+    match looked_up_fault(alloc, &scenario)? {
         Some(fault) => Err(fault),
         None => Ok(scenario),
     }
