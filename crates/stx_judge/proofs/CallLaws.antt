@@ -1,7 +1,6 @@
 -- What the call graph of a scenario says of the first method that leads to itself, of the first that is too deep, and of
 -- the weight.
-use Rattle.std.proofs.Common.{◌≡◌, ℕ, ◌+◌, ◌<◌, ◌≤◌, Bool, true, false, nat_lt, cond, List, [], ◌∷◌, Option, Some, None, length, refl, sym, ◌∙◌, ap, subst, arith}
-use Rattle.std.specs.List.{find, range_with_len}
+use Rattle.std.proofs.Common.{◌≡◌, ℕ, ◌<◌, ◌≤◌, Bool, true, false, nat_lt, cond, [], ◌∷◌, Some, None, length, refl, sym, ◌∙◌, ap, arith}
 use Rattle.std.specs.Option.{option_map}
 use Rattle.std.proofs.lemmas.Bool.{false≢true, false_from_ne_true, ltb-true, ltb-false}
 use Rattle.std.proofs.lemmas.Option.{none-some}
@@ -12,7 +11,6 @@ use Rattle.stx_base.specs.Lines.{method_name}
 use Rattle.stx_graph.specs.Ranks.{IsFirst}
 use Rattle.stx_graph.specs.Graph.{LeadsToItself, IsTooDeep, NoCycle, NoneTooDeep, IsAccepted, IsDue}
 use Rattle.stx_graph.specs.declared.graph.GraphFault.{GraphFault}
-use Rattle.stx_refusals.specs.declared.fault.ReadFault.{ReadFault}
 use Rattle.stx_refusals.specs.declared.fault.ReadFault.TheVariants.{CallCycle, CallDepth, TooLarge}
 use Rattle.stx_judge.specs.Calls.{numbered, leads_to_itself, call_cycle, call_depth, too_large}
 use Rattle.stx_refusals.specs.Faults.{first_some}

@@ -2,7 +2,6 @@
 use Rattle.std.proofs.Common.{◌<◌, ◌^◌, length, arith}
 use Rattle.std.proofs.Math.ListN.{length-drop}
 use Rattle.stx_scenario.specs.declared.scenario.Scenario.{Scenario}
-use Rattle.stx_scenario.specs.declared.scenario.ClassDecl.{ClassDecl}
 use Rattle.stx_scenario.specs.BuiltIn.{built_in}
 use Rattle.stx_base.specs.Valid.{PlacesInOrder}
 

@@ -1,20 +1,18 @@
 -- The refusal of a scenario, from those of the groups of stages.
-use Rattle.std.proofs.Common.{◌≡◌, List, [], ◌∷◌, ◌++◌, Option, Some, None, take, length, refl, sym, ◌∙◌, ap}
+use Rattle.std.proofs.Common.{◌≡◌, List, [], ◌∷◌, ◌++◌, Option, Some, None, refl, sym, ◌∙◌, ap}
 use Rattle.std.specs.Option.{option_or, option_map}
 use Rattle.std.proofs.lemmas.Option.{none-some}
 use Rattle.stx_scenario.specs.declared.scenario.Scenario.{Scenario}
 use Rattle.stx_scenario.specs.declared.numbers.ClassNo.{ClassNo}
-use Rattle.stx_scenario.specs.BuiltIn.{built_in}
 use Rattle.stx_base.specs.Lines.{class_name}
 use Rattle.stx_base.specs.Classes.{first_own_ancestor, first_too_deep, IsTree}
 use Rattle.stx_refusals.specs.declared.fault.ReadFault.{ReadFault}
 use Rattle.stx_refusals.specs.declared.fault.ReadFault.TheVariants.{ClassCycle, ClassDepth}
 use Rattle.stx_refusals.specs.declared.fault.Stage.TheVariants.{UnknownRef}
 use Rattle.stx_refusals.specs.Faults.{first_at, first_some}
-use Rattle.stx_judge.specs.Judge.{judged, scenario_faults, class_cycle, class_depth, numbered_class, IsValid}
+use Rattle.stx_judge.specs.Judge.{judged, scenario_faults, class_cycle, class_depth, numbered_class}
 use Rattle.stx_judge.specs.Calls.{call_cycle, call_depth, too_large}
 use Rattle.stx_judge.specs.Stages.{place_stages, class_stages, call_stages, linked_stages, place_refusal, class_refusal, callback_refusal, call_refusal, linked_refusal, looked_up}
-use Rattle.stx_base.specs.Valid.{IsInOrder}
 use Rattle.stx_judge.specs.Laws.{ValidIsInOrder}
 use Rattle.stx_refusals.proofs.QuietLaws.{some_none, mapped_none}
 use Rattle.stx_judge.proofs.OrderLaws.{accepted_places, accepted_callbacks, accepted_range}

@@ -1,6 +1,6 @@
 -- What a scenario that is accepted can be relied on for, place by place.
-use Rattle.std.proofs.Common.{◌≡◌, ◌⊎◌, ℕ, zero, suc, ◌+◌, ◌<◌, ◌≤◌, Bool, true, false, ◌&&◌, ◌==◌, nat_lt, nat_le, pos, int_le, List, [], ◌∷◌, ◌++◌, codes, Option, Some, None, length, slice_get, inl, inr, refl, sym, ◌∙◌, ap, subst, arith}
-use Rattle.std.specs.List.{All, find}
+use Rattle.std.proofs.Common.{◌≡◌, ℕ, zero, suc, ◌<◌, ◌≤◌, Bool, true, false, ◌&&◌, ◌==◌, pos, List, codes, Option, Some, None, length, slice_get, refl, arith}
+use Rattle.std.specs.List.{All}
 use Rattle.std.specs.Option.{option_map_or}
 use Rattle.std.proofs.lemmas.Bool.{false≢true, ltb-true, leb-true}
 use Rattle.std.proofs.lemmas.Option.{slice_get_within}
@@ -17,18 +17,16 @@ use Rattle.stx_scenario.specs.declared.scenario.Listener.{Listener}
 use Rattle.stx_scenario.specs.declared.scenario.Phase.{Phase}
 use Rattle.stx_scenario.specs.declared.scenario.Stmt.{Stmt}
 use Rattle.stx_base.specs.Weight.{CallbackInRange, StatementInRange, SyncInRange, InRange}
-use Rattle.stx_refusals.specs.declared.fault.Fault.{Fault}
-use Rattle.stx_refusals.specs.declared.fault.Stage.{Stage}
 use Rattle.stx_refusals.specs.declared.fault.Stage.TheVariants.{BadName, OutOfRange, TooMany, BadWord, UnknownRef, CallbackBody}
-use Rattle.stx_scenario.specs.Names.{is_name, is_class_name, is_pattern}
-use Rattle.stx_refusals.specs.Faults.{under, entry, refused, unless, each_from, first_at, first_some, is_stage, count_stage}
+use Rattle.stx_scenario.specs.Names.{is_name}
+use Rattle.stx_refusals.specs.Faults.{under, entry, refused, first_at, is_stage, count_stage}
 use Rattle.stx_names.specs.Integers.{is_pool}
 use Rattle.stx_judge.specs.Judge
 use Rattle.stx_base.specs.Valid
 use Rattle.stx_names.specs.Duplicates.{duplicate_among, names_of}
 use Rattle.stx_judge.specs.Stages.{place_refusal, callback_refusal, PlacesQuiet}
 use Rattle.stx_base.specs.Valid.{AreKnown, BodyInOrder, CallbackInOrder, RuleInOrder, AttributeInOrder, TxInOrder, ClassInOrder, BeanInOrder, MethodInOrder, SyncInOrder, ListenerInOrder, CallsInOrder, PlacesInOrder, SyncAllowed, CallbacksAllowed}
-use Rattle.stx_refusals.proofs.QuietLaws.{Quiet, InArray, is_place, both_true, some_none, quiet_both, quiet_each, quiet_passed, quiet_array, quiet_first, quiet_many, places_quiet}
+use Rattle.stx_refusals.proofs.QuietLaws.{Quiet, is_place, both_true, some_none, quiet_both, quiet_each, quiet_passed, quiet_array, quiet_first, quiet_many, places_quiet}
 
 -- ---- bodies and attributes
 

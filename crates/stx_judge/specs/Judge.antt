@@ -1,33 +1,27 @@
 -- When a scenario that is a value is valid, and else why it is refused: the stages after the types, with the paths that
 -- the scenario's text would have.
-use Rattle.std.specs.Prelude.{◌≡◌, ℕ, ◌^◌, ◌<◌, ◌≤◌, pos, Bool, true, false, not, ◌&&◌, ◌==◌, nat_lt, List, [], ◌∷◌, ◌++◌, codes, drop, length, take, Option, Some, None, slice_get}
-use Rattle.std.specs.Option.{option_map, option_map_or}
-use Rattle.std.specs.List.{list_all}
+use Rattle.std.specs.Prelude.{◌≡◌, ℕ, pos, Bool, ◌&&◌, nat_lt, List, [], ◌∷◌, ◌++◌, codes, length, Option, Some, None}
+use Rattle.std.specs.Option.{option_map}
 use Rattle.stx_scenario.specs.declared.numbers.BeanNo.{BeanNo}
 use Rattle.stx_scenario.specs.declared.numbers.ClassNo.{ClassNo}
 use Rattle.stx_scenario.specs.declared.numbers.MethodNo.{MethodNo}
-use Rattle.stx_scenario.specs.declared.numbers.RowNo.{RowNo}
-use Rattle.stx_scenario.specs.declared.classes.TheConstants.{TRANSACTION_EXCEPTION}
 use Rattle.stx_scenario.specs.declared.scenario.Scenario.{Scenario}
 use Rattle.stx_scenario.specs.declared.scenario.ClassDecl.{ClassDecl}
 use Rattle.stx_scenario.specs.declared.scenario.Bean.{Bean}
 use Rattle.stx_scenario.specs.declared.scenario.Method.{Method}
 use Rattle.stx_scenario.specs.declared.scenario.TxAttr.{TxAttr}
-use Rattle.stx_scenario.specs.declared.scenario.Propagation.{Propagation}
 use Rattle.stx_scenario.specs.declared.scenario.Rule.{Rule}
 use Rattle.stx_scenario.specs.declared.scenario.RuleBy.{RuleBy}
 use Rattle.stx_scenario.specs.declared.scenario.SyncDecl.{SyncDecl}
 use Rattle.stx_scenario.specs.declared.scenario.Listener.{Listener}
-use Rattle.stx_scenario.specs.declared.scenario.Phase.{Phase}
 use Rattle.stx_scenario.specs.declared.scenario.Stmt.{Stmt}
-use Rattle.stx_scenario.specs.BuiltIn.{built_in}
-use Rattle.stx_base.specs.Classes.{is_below, first_own_ancestor, first_too_deep}
+use Rattle.stx_base.specs.Classes.{first_own_ancestor, first_too_deep}
 use Rattle.stx_base.specs.Valid.{is_class, is_method, names_known, own_known, parent_known, first_rows, own_classes, allowed_before_commit, allowed_around, allowed_in, IsShaped}
 use Rattle.stx_base.specs.Lines.{class_name}
 use Rattle.stx_refusals.specs.declared.fault.Fault.{Fault}
 use Rattle.stx_refusals.specs.declared.fault.ReadFault.{ReadFault}
 use Rattle.stx_refusals.specs.declared.fault.Stage.{Stage}
-use Rattle.stx_scenario.specs.Names.{is_name, is_class_name, is_pattern, duplicate_from}
+use Rattle.stx_scenario.specs.Names.{is_name, is_class_name, is_pattern}
 use Rattle.stx_refusals.specs.Faults.{under, entry, refused, unless, each_from, count_faults, first_at, first_some, count_stage}
 use Rattle.stx_names.specs.Integers.{is_pool}
 use Rattle.stx_names.specs.Duplicates.{duplicate_among, names_of}

@@ -3,13 +3,10 @@ ghost use Rattle.std.specs.Prelude.{◌≡◌, ◌++◌, OnOk, IfOk};
 ghost use Rattle.stx_base.specs.Valid.{first_rows, own_classes};
 ghost use Rattle.stx_judge.specs.Judge.{events_faults, schedule_faults, settings_faults, rows_faults, classes_faults, beans_faults, methods_faults, syncs_faults, listeners_faults, clients_faults, scenario_faults};
 
-use crate::parts::{
-    bean_faults, class_faults, client_faults, listener_faults, method_faults, row_faults,
-    sync_faults, turn_faults,
-};
+use crate::checks::{check_array, check_each};
+use crate::parts::{Events, Rows};
 use std::alloc::Global;
-use stx_names::is_name;
-use stx_refusals::{Fault, Stage, check_count, check_entry, check_place};
+use stx_refusals::{Fault, Stage, check_count, check_place};
 use stx_scenario::{ClassDecl, List, Name, NoMemory, Scenario};
 
 /// The most events, beans, synchronisations and listeners, each.
@@ -31,6 +28,7 @@ const MOST_CONNECTIONS: u32 = 64;
 const FIRST_OWN: usize = 17;
 
 /// What the stages on single places refuse in a scenario, in walk order.
+#[tactic(auto, unfolding(crate::specs::Judge::scenario_faults))]
 pub fn scenario_faults(alloc: Global, scenario: &Scenario) -> Result<List<Fault>, NoMemory>
     ensures { IfOk result (λ faults. faults ≡ scenario_faults scenario.now) }
 {
@@ -48,22 +46,62 @@ fn first_faults(
 ) -> Result<(), NoMemory>
     ensures { OnOk result (faults.new ≡ faults.old ++ events_faults scenario.now ++ schedule_faults scenario.now ++ settings_faults scenario.now ++ rows_faults scenario.now ++ classes_faults scenario.now) }
 {
-    events_faults(alloc, faults, scenario)?;
-    schedule_faults(alloc, faults, scenario)?;
+    let events = scenario.events.as_slice();
+    check_array(alloc, faults, "events", MOST_PARTS, &Events, events)?;
+    let schedule = scenario.schedule.as_slice();
+    check_array(alloc, faults, "schedule", MOST_TURNS, scenario, schedule)?;
     settings_faults(alloc, faults, scenario)?;
     rows_faults(alloc, faults, scenario)?;
-    classes_faults(alloc, faults, scenario)
+    let classes = own_classes(scenario);
+    check_array(alloc, faults, "classes", MOST_DECLARED, scenario, classes)
 }
 
 // From the beans on.
 fn last_faults(alloc: Global, faults: &mut List<Fault>, scenario: &Scenario) -> Result<(), NoMemory>
     ensures { OnOk result (faults.new ≡ faults.old ++ beans_faults scenario.now ++ methods_faults scenario.now ++ syncs_faults scenario.now ++ listeners_faults scenario.now ++ clients_faults scenario.now) }
 {
-    beans_faults(alloc, faults, scenario)?;
-    methods_faults(alloc, faults, scenario)?;
-    syncs_faults(alloc, faults, scenario)?;
-    listeners_faults(alloc, faults, scenario)?;
+    let beans = scenario.beans.as_slice();
+    check_array(alloc, faults, "beans", MOST_PARTS, scenario, beans)?;
+    let methods = scenario.methods.as_slice();
+    check_array(alloc, faults, "methods", MOST_DECLARED, scenario, methods)?;
+    let syncs = scenario.syncs.as_slice();
+    check_array(alloc, faults, "syncs", MOST_PARTS, scenario, syncs)?;
+    let listeners = scenario.listeners.as_slice();
+    check_array(alloc, faults, "listeners", MOST_PARTS, scenario, listeners)?;
     clients_faults(alloc, faults, scenario)
+}
+
+fn settings_faults(
+    alloc: Global,
+    faults: &mut List<Fault>,
+    scenario: &Scenario,
+) -> Result<(), NoMemory>
+    ensures { OnOk result (faults.new ≡ faults.old ++ settings_faults scenario.now) }
+{
+    let pool = scenario.settings.pool;
+    let passed = 1 <= pool && pool <= MOST_CONNECTIONS;
+    check_place(alloc, faults, "settings.pool", passed, Stage::OutOfRange)
+}
+
+fn rows_faults(alloc: Global, faults: &mut List<Fault>, scenario: &Scenario) -> Result<(), NoMemory>
+    ensures { OnOk result (faults.new ≡ faults.old ++ rows_faults scenario.now) }
+{
+    let names = first_rows(scenario);
+    check_count(alloc, faults, "rows", MOST_ROWS, scenario.values.len())?;
+    check_each(alloc, faults, &Rows, names)
+}
+
+fn clients_faults(
+    alloc: Global,
+    faults: &mut List<Fault>,
+    scenario: &Scenario,
+) -> Result<(), NoMemory>
+    ensures { OnOk result (faults.new ≡ faults.old ++ clients_faults scenario.now) }
+{
+    let count = scenario.clients.len();
+    check_place(alloc, faults, "clients", 1 <= count, Stage::OutOfRange)?;
+    check_count(alloc, faults, "clients", MOST_CLIENTS, count)?;
+    check_each(alloc, faults, scenario, scenario.clients.as_slice())
 }
 
 // The names that the rows section gives.
@@ -86,150 +124,4 @@ fn own_classes(scenario: &Scenario) -> &[ClassDecl]
         return &[];
     }
     &classes[FIRST_OWN..]
-}
-
-fn settings_faults(
-    alloc: Global,
-    faults: &mut List<Fault>,
-    scenario: &Scenario,
-) -> Result<(), NoMemory>
-    ensures { OnOk result (faults.new ≡ faults.old ++ settings_faults scenario.now) }
-{
-    let pool = scenario.settings.pool;
-    let passed = 1 <= pool && pool <= MOST_CONNECTIONS;
-    check_place(alloc, faults, "settings.pool", passed, Stage::OutOfRange)
-}
-
-fn clients_faults(
-    alloc: Global,
-    faults: &mut List<Fault>,
-    scenario: &Scenario,
-) -> Result<(), NoMemory>
-    ensures { OnOk result (faults.new ≡ faults.old ++ clients_faults scenario.now) }
-{
-    let count = scenario.clients.len();
-    check_place(alloc, faults, "clients", 1 <= count, Stage::OutOfRange)?;
-    check_count(alloc, faults, "clients", MOST_CLIENTS, count)?;
-    let clients = scenario.clients.as_slice();
-    for (at, calls) in clients.iter().enumerate() {
-        client_faults(alloc, faults, scenario, at, calls)?;
-    }
-    Ok(())
-}
-
-fn events_faults(
-    alloc: Global,
-    faults: &mut List<Fault>,
-    scenario: &Scenario,
-) -> Result<(), NoMemory>
-    ensures { OnOk result (faults.new ≡ faults.old ++ events_faults scenario.now) }
-{
-    let events = scenario.events.as_slice();
-    check_count(alloc, faults, "events", MOST_PARTS, events.len())?;
-    for (at, name) in events.iter().enumerate() {
-        let passed = is_name(name.as_str());
-        check_entry(alloc, faults, "events", at, passed, Stage::BadName)?;
-    }
-    Ok(())
-}
-
-fn schedule_faults(
-    alloc: Global,
-    faults: &mut List<Fault>,
-    scenario: &Scenario,
-) -> Result<(), NoMemory>
-    ensures { OnOk result (faults.new ≡ faults.old ++ schedule_faults scenario.now) }
-{
-    let schedule = scenario.schedule.as_slice();
-    check_count(alloc, faults, "schedule", MOST_TURNS, schedule.len())?;
-    for (at, client) in schedule.iter().enumerate() {
-        turn_faults(alloc, faults, scenario, at, *client)?;
-    }
-    Ok(())
-}
-
-fn rows_faults(alloc: Global, faults: &mut List<Fault>, scenario: &Scenario) -> Result<(), NoMemory>
-    ensures { OnOk result (faults.new ≡ faults.old ++ rows_faults scenario.now) }
-{
-    let names = first_rows(scenario);
-    check_count(alloc, faults, "rows", MOST_ROWS, scenario.values.len())?;
-    for (at, name) in names.iter().enumerate() {
-        row_faults(alloc, faults, at, name)?;
-    }
-    Ok(())
-}
-
-fn classes_faults(
-    alloc: Global,
-    faults: &mut List<Fault>,
-    scenario: &Scenario,
-) -> Result<(), NoMemory>
-    ensures { OnOk result (faults.new ≡ faults.old ++ classes_faults scenario.now) }
-{
-    let classes = own_classes(scenario);
-    check_count(alloc, faults, "classes", MOST_DECLARED, classes.len())?;
-    for (at, class) in classes.iter().enumerate() {
-        class_faults(alloc, faults, scenario, at, class)?;
-    }
-    Ok(())
-}
-
-fn beans_faults(
-    alloc: Global,
-    faults: &mut List<Fault>,
-    scenario: &Scenario,
-) -> Result<(), NoMemory>
-    ensures { OnOk result (faults.new ≡ faults.old ++ beans_faults scenario.now) }
-{
-    let beans = scenario.beans.as_slice();
-    check_count(alloc, faults, "beans", MOST_PARTS, beans.len())?;
-    for (at, bean) in beans.iter().enumerate() {
-        bean_faults(alloc, faults, scenario, at, bean)?;
-    }
-    Ok(())
-}
-
-fn methods_faults(
-    alloc: Global,
-    faults: &mut List<Fault>,
-    scenario: &Scenario,
-) -> Result<(), NoMemory>
-    ensures { OnOk result (faults.new ≡ faults.old ++ methods_faults scenario.now) }
-{
-    let methods = scenario.methods.as_slice();
-    check_count(alloc, faults, "methods", MOST_DECLARED, methods.len())?;
-    for (at, method) in methods.iter().enumerate() {
-        method_faults(alloc, faults, scenario, at, method)?;
-    }
-    Ok(())
-}
-
-fn syncs_faults(
-    alloc: Global,
-    faults: &mut List<Fault>,
-    scenario: &Scenario,
-) -> Result<(), NoMemory>
-    ensures { OnOk result (faults.new ≡ faults.old ++ syncs_faults scenario.now) }
-{
-    let syncs = scenario.syncs.as_slice();
-    check_count(alloc, faults, "syncs", MOST_PARTS, syncs.len())?;
-    for (at, sync) in syncs.iter().enumerate() {
-        sync_faults(alloc, faults, scenario, at, sync)?;
-    }
-    Ok(())
-}
-
-fn listeners_faults(
-    alloc: Global,
-    faults: &mut List<Fault>,
-    scenario: &Scenario,
-) -> Result<(), NoMemory>
-    ensures { OnOk result (faults.new ≡ faults.old ++ listeners_faults scenario.now) }
-{
-    let listeners = scenario.listeners.as_slice();
-    check_count(alloc, faults, "listeners", MOST_PARTS, listeners.len())?;
-    for (at, listener) in listeners.iter().enumerate() {
-        listener_faults(alloc, faults, scenario, at, listener)?;
-    }
-    Ok(())
 }

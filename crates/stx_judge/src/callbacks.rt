@@ -1,14 +1,16 @@
 // The statements that no callback may hold.
 ghost use Rattle.std.specs.Prelude.{◌≡◌, ◌<◌, ◌++◌, length, true, false, OnOk, IfOk, option_copied};
-ghost use Rattle.std.specs.List.{All};
 ghost use Rattle.std.specs.Option.{option_map_or};
 ghost use Rattle.stx_base.specs.Attributes.{attribute};
 ghost use Rattle.stx_base.specs.Classes.{parents_of};
-ghost use Rattle.stx_refusals.specs.Faults.{under as path_under, each_from};
+ghost use Rattle.stx_scenario.specs.declared.classes.TheConstants.{TRANSACTION_EXCEPTION as transaction_exception};
+ghost use Rattle.stx_refusals.specs.declared.fault.Stage.{Stage as Kind};
+ghost use Rattle.stx_refusals.specs.Faults.{refused, unless, under as path_under, entry as path_of_entry};
 ghost use Rattle.stx_base.specs.Valid.{names_known, allowed_before_commit, allowed_around, allowed_in, is_new, AreKnown, SyncInOrder, ListenerInOrder, PlacesInOrder};
 ghost use Rattle.stx_judge.specs.Judge.{disallowed, sync_callback_faults, listener_callback_faults, callback_faults};
 ghost use Rattle.stx_judge.specs.Stages.{callback_refusal};
 
+use crate::checks::{Checks, check_each};
 use std::alloc::Global;
 use stx_classes::ClassTree;
 use stx_refusals::{Fault, ReadFault, Stage, check_entry, entry, first_at, under};
@@ -28,223 +30,173 @@ pub fn callback_fault(
     requires order { PlacesInOrder scenario.now }
     ensures { IfOk result (λ fault. fault ≡ callback_refusal scenario.now) }
 {
-    let faults = callback_faults(alloc, scenario, tree)?;
+    let callbacks = Callbacks { scenario, tree };
+    let faults = callbacks.faults(alloc)?;
     first_at(alloc, Stage::CallbackBody, faults.as_slice())
 }
 
-fn callback_faults(
-    alloc: Global,
-    scenario: &Scenario,
-    tree: &ClassTree,
-) -> Result<List<Fault>, NoMemory>
-    requires tree { tree.now ≡ parents_of scenario.now.classes }
-    requires built_in { TRANSACTION_EXCEPTION.0 < length scenario.now.classes }
-    requires order { PlacesInOrder scenario.now }
-    ensures { IfOk result (λ faults. faults ≡ callback_faults scenario.now) }
-{
-    let mut faults = List::new(alloc);
-    syncs_faults(alloc, &mut faults, scenario, tree)?;
-    listeners_faults(alloc, &mut faults, scenario, tree)?;
-    Ok(faults)
+/// The callbacks of a scenario, with the tree of its classes.
+#[derive(Drop)]
+struct Callbacks<'a> {
+    scenario: &'a Scenario,
+    tree: &'a ClassTree,
+    ghost tree_is: { tree.now ≡ parents_of scenario.now.classes },
+    ghost built_in: { transaction_exception.0 < length scenario.now.classes },
 }
 
-fn syncs_faults(
-    alloc: Global,
-    faults: &mut List<Fault>,
-    scenario: &Scenario,
-    tree: &ClassTree,
-) -> Result<(), NoMemory>
-    requires tree { tree.now ≡ parents_of scenario.now.classes }
-    requires built_in { TRANSACTION_EXCEPTION.0 < length scenario.now.classes }
-    requires order { All (SyncInOrder scenario.now) scenario.now.syncs }
-    ensures { OnOk result (faults.new ≡ faults.old ++ each_from (sync_callback_faults scenario.now) 0 scenario.now.syncs) }
-{
-    let syncs = scenario.syncs.as_slice();
-    for (at, sync) in syncs.iter().enumerate() {
-        sync_faults(alloc, faults, scenario, tree, at, sync)?;
+impl<'a> Callbacks<'a> {
+    #[tactic(auto, unfolding(crate::specs::Judge::callback_faults))]
+    fn faults(&self, alloc: Global) -> Result<List<Fault>, NoMemory>
+        requires { PlacesInOrder self.now.scenario.now }
+        ensures { IfOk result (λ faults. faults ≡ callback_faults self.now.scenario.now) }
+    {
+        let mut faults = List::new(alloc);
+        check_each(alloc, &mut faults, self, self.scenario.syncs.as_slice())?;
+        check_each(alloc, &mut faults, self, self.scenario.listeners.as_slice())?;
+        Ok(faults)
     }
-    Ok(())
-}
 
-fn listeners_faults(
-    alloc: Global,
-    faults: &mut List<Fault>,
-    scenario: &Scenario,
-    tree: &ClassTree,
-) -> Result<(), NoMemory>
-    requires tree { tree.now ≡ parents_of scenario.now.classes }
-    requires built_in { TRANSACTION_EXCEPTION.0 < length scenario.now.classes }
-    requires order { All (ListenerInOrder scenario.now) scenario.now.listeners }
-    ensures { OnOk result (faults.new ≡ faults.old ++ each_from (listener_callback_faults scenario.now) 0 scenario.now.listeners) }
-{
-    let listeners = scenario.listeners.as_slice();
-    for (at, listener) in listeners.iter().enumerate() {
-        listener_faults(alloc, faults, scenario, tree, at, listener)?;
+    // The body under a key of the table at a path. All callbacks but those before the commit may hold the same.
+    fn check_body(
+        &self,
+        alloc: Global,
+        faults: &mut List<Fault>,
+        phase: Phase,
+        path: &str,
+        key: &str,
+        body: &List<Stmt>,
+    ) -> Result<(), NoMemory>
+        requires { AreKnown self.now.scenario.now body.now }
+        ensures { OnOk result (faults.new ≡ faults.old ++ disallowed (allowed_in phase self.now.scenario.now) (path_under path.now key.now) body.now) }
+    {
+        let path = under(alloc, path, key)?;
+        let statements = Body {
+            callbacks: self,
+            phase,
+            path: path.as_str(),
+        };
+        check_each(alloc, faults, &statements, body.as_slice())
     }
-    Ok(())
+
+    fn is_allowed(&self, phase: Phase, statement: Stmt) -> bool
+        requires { names_known self.now.scenario.now statement ≡ true }
+        ensures { result ≡ allowed_in phase self.now.scenario.now statement }
+    {
+        match phase {
+            Phase::BeforeCommit => self.is_allowed_before_commit(statement),
+            _ => is_allowed_around(self.scenario, statement),
+        }
+    }
+
+    // Statements on rows, and throws of classes that are no TransactionException.
+    fn is_allowed_before_commit(&self, statement: Stmt) -> bool
+        requires { names_known self.now.scenario.now statement ≡ true }
+        ensures { result ≡ allowed_before_commit self.now.scenario.now statement }
+    {
+        match statement {
+            Stmt::Read(_) => true,
+            Stmt::Write(_, _) => true,
+            Stmt::Erase(_) => true,
+            Stmt::Add(_, _) => true,
+            Stmt::Need(_, _) => true,
+            Stmt::Throw(class) => !self.tree.is_below(class, TRANSACTION_EXCEPTION),
+            _ => false,
+        }
+    }
 }
 
-fn sync_faults(
-    alloc: Global,
-    faults: &mut List<Fault>,
-    scenario: &Scenario,
-    tree: &ClassTree,
-    at: usize,
-    sync: &SyncDecl,
-) -> Result<(), NoMemory>
-    requires tree { tree.now ≡ parents_of scenario.now.classes }
-    requires built_in { TRANSACTION_EXCEPTION.0 < length scenario.now.classes }
-    requires order { SyncInOrder scenario.now sync.now }
-    ensures { OnOk result (faults.new ≡ faults.old ++ sync_callback_faults scenario.now at sync.now) }
-{
-    let path = entry(alloc, "syncs", at)?;
-    let path = path.as_str();
-    body_faults(
-        alloc,
-        faults,
-        scenario,
-        tree,
-        Phase::BeforeCommit,
-        path,
-        "before_commit",
-        &sync.before_commit,
-    )?;
-    body_faults(
-        alloc,
-        faults,
-        scenario,
-        tree,
-        Phase::AfterCompletion,
-        path,
-        "before_completion",
-        &sync.before_completion,
-    )?;
-    body_faults(
-        alloc,
-        faults,
-        scenario,
-        tree,
-        Phase::AfterCommit,
-        path,
-        "after_commit",
-        &sync.after_commit,
-    )?;
-    body_faults(
-        alloc,
-        faults,
-        scenario,
-        tree,
-        Phase::AfterCompletion,
-        path,
-        "after_completion",
-        &sync.after_completion,
-    )?;
-    Ok(())
+impl<'a> Checks<SyncDecl> for Callbacks<'a> {
+    ghost can_check = { λ callbacks. SyncInOrder callbacks.scenario.now };
+
+    ghost finds = { λ callbacks. sync_callback_faults callbacks.scenario.now };
+
+    fn check(
+        &self,
+        alloc: Global,
+        faults: &mut List<Fault>,
+        at: usize,
+        sync: &SyncDecl,
+    ) -> Result<(), NoMemory> {
+        let path = entry(alloc, "syncs", at)?;
+        let path = path.as_str();
+        let before = Phase::BeforeCommit;
+        let around = Phase::AfterCompletion;
+        self.check_body(
+            alloc,
+            faults,
+            before,
+            path,
+            "before_commit",
+            &sync.before_commit,
+        )?;
+        self.check_body(
+            alloc,
+            faults,
+            around,
+            path,
+            "before_completion",
+            &sync.before_completion,
+        )?;
+        self.check_body(
+            alloc,
+            faults,
+            around,
+            path,
+            "after_commit",
+            &sync.after_commit,
+        )?;
+        self.check_body(
+            alloc,
+            faults,
+            around,
+            path,
+            "after_completion",
+            &sync.after_completion,
+        )?;
+        Ok(())
+    }
 }
 
-fn listener_faults(
-    alloc: Global,
-    faults: &mut List<Fault>,
-    scenario: &Scenario,
-    tree: &ClassTree,
-    at: usize,
-    listener: &Listener,
-) -> Result<(), NoMemory>
-    requires tree { tree.now ≡ parents_of scenario.now.classes }
-    requires built_in { TRANSACTION_EXCEPTION.0 < length scenario.now.classes }
-    requires order { ListenerInOrder scenario.now listener.now }
-    ensures { OnOk result (faults.new ≡ faults.old ++ listener_callback_faults scenario.now at listener.now) }
-{
-    let path = entry(alloc, "listeners", at)?;
-    let phase = listener.phase;
-    body_faults(
-        alloc,
-        faults,
-        scenario,
-        tree,
-        phase,
-        path.as_str(),
-        "body",
-        &listener.body,
-    )
+impl<'a> Checks<Listener> for Callbacks<'a> {
+    ghost can_check = { λ callbacks. ListenerInOrder callbacks.scenario.now };
+
+    ghost finds = { λ callbacks. listener_callback_faults callbacks.scenario.now };
+
+    fn check(
+        &self,
+        alloc: Global,
+        faults: &mut List<Fault>,
+        at: usize,
+        listener: &Listener,
+    ) -> Result<(), NoMemory> {
+        let path = entry(alloc, "listeners", at)?;
+        let path = path.as_str();
+        self.check_body(alloc, faults, listener.phase, path, "body", &listener.body)
+    }
 }
 
-// The body under a key of the table at a path. All callbacks but those before the commit may hold the same.
-fn body_faults(
-    alloc: Global,
-    faults: &mut List<Fault>,
-    scenario: &Scenario,
-    tree: &ClassTree,
+/// The body at a path, of a callback in a phase.
+#[derive(Drop)]
+struct Body<'a> {
+    callbacks: &'a Callbacks<'a>,
     phase: Phase,
-    path: &str,
-    key: &str,
-    body: &List<Stmt>,
-) -> Result<(), NoMemory>
-    requires tree { tree.now ≡ parents_of scenario.now.classes }
-    requires built_in { TRANSACTION_EXCEPTION.0 < length scenario.now.classes }
-    requires known { AreKnown scenario.now body.now }
-    ensures { OnOk result (faults.new ≡ faults.old ++ disallowed (allowed_in phase scenario.now) (path_under path.now key.now) body.now) }
-{
-    let path = under(alloc, path, key)?;
-    disallowed(
-        alloc,
-        faults,
-        scenario,
-        tree,
-        phase,
-        path.as_str(),
-        body.as_slice(),
-    )
+    path: &'a str,
 }
 
-fn disallowed(
-    alloc: Global,
-    faults: &mut List<Fault>,
-    scenario: &Scenario,
-    tree: &ClassTree,
-    phase: Phase,
-    path: &str,
-    body: &[Stmt],
-) -> Result<(), NoMemory>
-    requires tree { tree.now ≡ parents_of scenario.now.classes }
-    requires built_in { TRANSACTION_EXCEPTION.0 < length scenario.now.classes }
-    requires known { AreKnown scenario.now body.now }
-    ensures { OnOk result (faults.new ≡ faults.old ++ disallowed (allowed_in phase scenario.now) path.now body.now) }
-{
-    for (at, statement) in body.iter().enumerate() {
-        let passed = is_allowed(scenario, tree, phase, *statement);
-        check_entry(alloc, faults, path, at, passed, Stage::CallbackBody)?;
-    }
-    Ok(())
-}
+impl<'a> Checks<Stmt> for Body<'a> {
+    ghost can_check = { λ body s. names_known body.callbacks.now.scenario.now s ≡ true };
 
-fn is_allowed(scenario: &Scenario, tree: &ClassTree, phase: Phase, statement: Stmt) -> bool
-    requires tree { tree.now ≡ parents_of scenario.now.classes }
-    requires built_in { TRANSACTION_EXCEPTION.0 < length scenario.now.classes }
-    requires known { names_known scenario.now statement ≡ true }
-    ensures { result ≡ allowed_in phase scenario.now statement }
-{
-    match phase {
-        Phase::BeforeCommit => is_allowed_before_commit(scenario, tree, statement),
-        _ => is_allowed_around(scenario, statement),
-    }
-}
+    ghost finds = { λ body n s. refused (path_of_entry body.path.now n) (unless (allowed_in body.phase body.callbacks.now.scenario.now s) Kind.CallbackBody) };
 
-// Statements on rows, and throws of classes that are no TransactionException.
-fn is_allowed_before_commit(scenario: &Scenario, tree: &ClassTree, statement: Stmt) -> bool
-    requires tree { tree.now ≡ parents_of scenario.now.classes }
-    requires built_in { TRANSACTION_EXCEPTION.0 < length scenario.now.classes }
-    requires known { names_known scenario.now statement ≡ true }
-    ensures { result ≡ allowed_before_commit scenario.now statement }
-{
-    match statement {
-        Stmt::Read(_) => true,
-        Stmt::Write(_, _) => true,
-        Stmt::Erase(_) => true,
-        Stmt::Add(_, _) => true,
-        Stmt::Need(_, _) => true,
-        Stmt::Throw(class) => !tree.is_below(class, TRANSACTION_EXCEPTION),
-        _ => false,
+    fn check(
+        &self,
+        alloc: Global,
+        faults: &mut List<Fault>,
+        at: usize,
+        statement: &Stmt,
+    ) -> Result<(), NoMemory> {
+        let passed = self.callbacks.is_allowed(self.phase, *statement);
+        check_entry(alloc, faults, self.path, at, passed, Stage::CallbackBody)
     }
 }
 

@@ -4,13 +4,14 @@
 mod arrays;
 mod callbacks;
 mod calls;
+mod checks;
 mod classes;
 mod judging;
 mod laws;
 mod parts;
 mod references;
 mod stages;
-mod statements;
+mod tables;
 mod texts;
 
 pub use judging::{judge, judged, looked_up_fault, unknown_reference};

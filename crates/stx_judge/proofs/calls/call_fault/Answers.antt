@@ -1,4 +1,4 @@
-use Rattle.std.proofs.Common.{◌≡◌, Some, sym, ap, ◌∙◌}
+use Rattle.std.proofs.Common.{Some, sym, ap, ◌∙◌}
 use Rattle.stx_refusals.specs.declared.fault.ReadFault.TheVariants.{CallCycle, CallDepth}
 use Rattle.stx_judge.proofs.CallLaws.{calls_accepted, refused_cycle, refused_depth, refused_large}
 use Rattle.stx_judge.proofs.calls.call_fault.Goals as goal
