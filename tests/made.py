@@ -119,7 +119,8 @@ def call_graph(count, calls, shape):
             ahead = [(number * 31 + step * 17) % count if step % 2 else other for step, other in enumerate(ahead)]
         bodies.append([number + 1, *ahead])
     bodies.append({"line": [], "knot": [count - 2], "ring": [0]}[shape])
-    return methods([method(f"m{number}", [f"this m{other}" for other in body], "") for number, body in enumerate(bodies)], ["b.m0"])
+    calling = [[f"this m{other}" for other in body] for body in bodies]
+    return methods([method(f"m{number}", body, "") for number, body in enumerate(calling)], ["b.m0"])
 
 
 def heavy_calls(count):
