@@ -26,9 +26,9 @@ most_weight = 200000
 abbrev pub notes_a_unit : ℕ
 notes_a_unit = 8
 
--- a number is below this
-abbrev pub numbers : ℕ
-numbers = 2 ^ 32
+-- the numbers of methods and of classes are below this
+abbrev pub number_bound : ℕ
+number_bound = 2 ^ 32
 
 -- a client's notes in each history
 abbrev pub most_notes : ℕ

@@ -11,7 +11,7 @@ use Rattle.stx_scenario.specs.declared.scenario.Listener.{Listener}
 use Rattle.stx_scenario.specs.declared.scenario.SyncDecl.{SyncDecl}
 use Rattle.stx_scenario.specs.declared.scenario.Stmt.{Stmt}
 use Rattle.stx_base.specs.declared.cost.Cost.{Cost}
-use Rattle.stx_base.specs.Limits.{numbers}
+use Rattle.stx_base.specs.Limits.{number_bound}
 
 -- ---- the parts of a scenario, by number
 
@@ -214,7 +214,7 @@ MethodsInRange methods named = All (λ m. m.0 < methods) named
 -- the methods have numbers, and all methods, events and syncs that bodies and clients name are there; rows
 -- and classes don't matter here
 pub record InRange (S : Scenario) : Type 0 where
-  pub few : length S.methods < numbers
+  pub few : length S.methods < number_bound
   pub methods : All (λ method. BodyInRange (length S.methods) (length S.events) (length S.syncs) method.body) S.methods
   pub syncs : All (SyncInRange (length S.methods)) S.syncs
   pub listeners : All (λ listener. CallbacksInRange (length S.methods) listener.body) S.listeners

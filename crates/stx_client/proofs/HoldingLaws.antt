@@ -12,24 +12,13 @@ between_ok (Stage.GivingBack scope x) is = elim is [ ]
 between_ok Stage.Done is = refl
 between_ok Stage.Failed is = elim is [ ]
 
-pub between_connection : (stage : Stage) (out : Bool) → IsBetween stage → holds_connection out stage ≡ None
-between_connection (Stage.Opening m) true is = refl
-between_connection (Stage.Opening m) false is = refl
-between_connection (Stage.Beginning m c) out is = elim is [ ]
-between_connection (Stage.Accessing scope a d next) out is = elim is [ ]
-between_connection (Stage.Completing scope e x) out is = elim is [ ]
-between_connection (Stage.GivingBack scope x) out is = elim is [ ]
-between_connection Stage.Done true is = refl
-between_connection Stage.Done false is = refl
-between_connection Stage.Failed out is = elim is [ ]
-
-pub between_session : (stage : Stage) (out : Bool) → IsBetween stage → holds_session out stage ≡ None
-between_session (Stage.Opening m) true is = refl
-between_session (Stage.Opening m) false is = refl
-between_session (Stage.Beginning m c) out is = elim is [ ]
-between_session (Stage.Accessing scope a d next) out is = elim is [ ]
-between_session (Stage.Completing scope e x) out is = elim is [ ]
-between_session (Stage.GivingBack scope x) out is = elim is [ ]
-between_session Stage.Done true is = refl
-between_session Stage.Done false is = refl
-between_session Stage.Failed out is = elim is [ ]
+pub between_nothing : (stage : Stage) (out : Bool) → IsBetween stage → (holds_connection out stage ≡ None) × (holds_session out stage ≡ None)
+between_nothing (Stage.Opening m) true is = (refl, refl)
+between_nothing (Stage.Opening m) false is = (refl, refl)
+between_nothing (Stage.Beginning m c) out is = elim is [ ]
+between_nothing (Stage.Accessing scope a d next) out is = elim is [ ]
+between_nothing (Stage.Completing scope e x) out is = elim is [ ]
+between_nothing (Stage.GivingBack scope x) out is = elim is [ ]
+between_nothing Stage.Done true is = (refl, refl)
+between_nothing Stage.Done false is = (refl, refl)
+between_nothing Stage.Failed out is = elim is [ ]

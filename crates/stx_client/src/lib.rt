@@ -1,4 +1,5 @@
 //! The machine of one client: it wants a shared call, takes in the reply, and says the lines of its script.
+//! `specs/View` says what contracts see of it.
 #![tactic(auto)]
 
 mod body;

@@ -1,5 +1,5 @@
 -- The clients of a play, and what a turn leaves.
-use Rattle.std.proofs.Common.{◌≡◌, ℕ, zero, suc, ◌<◌, ◌≤◌, ◌-◌, false, true, List, map, length, get_or, Some, refl, sym, ap, ◌∙◌, subst, arith, eqb, ◌≢◌, ◌⊎◌, inl, inr, ◌+◌, [], ◌∷◌}
+use Rattle.std.proofs.Common.{◌≡◌, ℕ, zero, suc, ◌<◌, ◌≤◌, ◌-◌, Bool, false, true, List, map, length, get_or, Some, refl, sym, ap, ◌∙◌, subst, arith, eqb, ◌≢◌, ◌⊎◌, inl, inr, ◌+◌, [], ◌∷◌}
 use Rattle.std.specs.Prelude.{slice_set}
 use Rattle.std.specs.List.{range_with_len}
 use Rattle.std.proofs.lemmas.List.FromFn.{length-map-range_with_len, get_or-map-range_with_len}
@@ -16,8 +16,8 @@ use Rattle.std.proofs.lemmas.Bool.Decides.{eqb_tells}
 use Rattle.stx_model.proofs.EntriesLaw.{entries_within}
 use Rattle.stx_pool.specs.Pool.{Pool}
 use Rattle.stx_store.specs.Store.{Store}
-use Rattle.stx_play.specs.Play.{IsClientDone, AllDone}
-use Rattle.stx_play.specs.inner.Turning.{turns_of, count_entries, client_so_far, HasRead, IsGoing, IsReady, HasTurned, EachEnded}
+use Rattle.stx_play.specs.Play.{PlayView, IsClientDone, AllDone}
+use Rattle.stx_play.specs.inner.Turning.{turns_of, count_entries, client_so_far, HasRead, IsGoing, IsReady, KeepsPlay, HasTurned, EachEnded}
 use Rattle.stx_play.proofs.RangeLaws.{set_range}
 
 module _ (S : Scenario) (pool : Pool) (store : Store) (views : List ClientView) (going : IsGoing S pool store views) where
@@ -81,6 +81,27 @@ module _ (S : Scenario) (pool : Pool) (store : Store) (views : List ClientView) 
   want_at c client w below is want =
       let own = is ∙ view_at c client below in
       ap (λ v. stop_of (script_of v)) (sym own) ∙ want (ap (λ v. v.failed) own)
+
+-- ---- what the view tells
+
+abbrev pub view_of : Scenario → Pool → Store → Bool → PlayView
+view_of S pool store failed = record { scenario = S; so_far = turns_of pool store; failed = failed }
+
+-- a client of a play that goes on
+pub record AtClient (S : Scenario) (pool : Pool) (store : Store) (views : List ClientView) (c : ℕ) : Type 0 where
+  pub going : IsGoing S pool store views
+  pub below : c < length S.clients
+  pub inside : c < length views
+
+module _ {S : Scenario} {failed : Bool} {pool : Pool} {store : Store} {views : List ClientView} (keeps : KeepsPlay S failed pool store views) (play : PlayView)
+    (view : view_of S pool store failed ≡ play) (ok : play.failed ≡ false) where
+  pub goes_on : IsGoing S pool store views
+  goes_on = keeps.going (ap (λ v. v.failed) view ∙ ok)
+
+  pub at_client : (c : ℕ) → c < length play.scenario.clients → AtClient S pool store views c
+  at_client c low =
+      let below : c < length S.clients = subst (λ v. c < length v.scenario.clients) (sym view) low in
+      record { going = goes_on; below = below; inside = subst (λ n. c < n) (sym (count S pool store views goes_on)) below }
 
 -- a turn of a client that is done does nothing
 pub done_stays : (S : Scenario) (so_far : Turns) (c : ℕ) → IsClientDone S so_far c → turn S so_far c ≡ so_far

@@ -1,4 +1,5 @@
-//! Plays all clients of a scenario over one pool and one store on one thread, by a schedule.
+//! Plays all clients of a scenario over one pool and one store on one thread, by a schedule. `specs/Play` says what
+//! contracts see of a play under way.
 #![tactic(auto)]
 
 mod asking;

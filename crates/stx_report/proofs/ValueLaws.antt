@@ -1,20 +1,17 @@
 -- How the values of the rows change, and what they are at first.
-use Rattle.std.proofs.Common.{◌≡◌, ◌≢◌, ℕ, zero, suc, ◌+◌, ◌<◌, ◌≤◌, ℤ, Bool, true, false, cond, List, [], ◌∷◌, ◌++◌, length, take, drop, set, slice_get, get_or, filter_map, fold, Option, Some, None, refl, sym, ap, ◌∙◌, arith, append_assoc, eq-eqb, ne_eqb}
-use Rattle.std.specs.List.{enumerate_from, cons_option}
-use Rattle.std.specs.Ordering.{nat_cmp, eq_by_cmp}
+use Rattle.std.proofs.Common.{◌≡◌, ◌≢◌, ℕ, zero, suc, ◌+◌, ◌<◌, ◌≤◌, ℤ, Bool, true, false, cond, List, [], ◌∷◌, ◌++◌, length, take, drop, set, get_or, fold, Option, Some, None, refl, sym, ap, ◌∙◌, arith, append_assoc, eq-eqb, ne_eqb}
+use Rattle.std.specs.List.{cons_option}
 use Rattle.std.specs.Cmp.{unsigned_tied}
-use Rattle.std.specs.FinMap.{get, find, get-insert, get-remove, get-from_entries}
+use Rattle.std.specs.FinMap.{get, get-insert, get-remove}
 use Rattle.std.proofs.lemmas.Cmp.{nat_cmp_total}
-use Rattle.std.proofs.lemmas.List.{take_more, drop_more}
-use Rattle.std.proofs.lemmas.List.Elements.{filter_map-append}
-use Rattle.std.proofs.lemmas.List.Sums.{fold-append}
+use Rattle.std.proofs.lemmas.List.{drop_more}
 use Rattle.stx_base.specs.declared.history.Access.{Access}
 use Rattle.stx_base.specs.declared.history.Answer.{Answer}
 use Rattle.stx_base.specs.declared.history.StoreNote.{StoreNote}
 use Rattle.stx_base.specs.declared.history.StoreEntry.{StoreEntry}
-use Rattle.stx_base.specs.Alone.{RowMap, first_rows, applied, after}
+use Rattle.stx_base.specs.Alone.{RowMap, applied}
 use Rattle.stx_base.specs.Histories.{store_notes}
-use Rattle.stx_base.specs.Stores.{is_busy, work, committed_note, committed_by, after_all}
+use Rattle.stx_base.specs.Stores.{is_busy, work, committed_note, after_all}
 use Rattle.stx_base.proofs.RowLaws.{rows_so_far, rows_so_far-more}
 use Rattle.stx_report.specs.Kept.{Kept, kept_of}
 use Rattle.stx_report.specs.RowValues.{values_from, written, all_written, committed_values}

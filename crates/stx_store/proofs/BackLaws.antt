@@ -12,7 +12,7 @@ use Rattle.stx_base.specs.Alone.{innermost, without_innermost}
 use Rattle.stx_base.specs.Stores.{work, works, is_busy, pointed, savepoints, with_return}
 use Rattle.stx_base.proofs.HistoryLaws.{store_notes-push}
 use Rattle.stx_store.specs.declared.rows.Trace.{Trace}
-use Rattle.stx_store.specs.inner.Cells.{Cell, cell_applied, cell_stepped, cell_worked, cell_after, written, value_or_level, back_at_access, back_at_return, back_at_release, back}
+use Rattle.stx_store.specs.inner.Cells.{Cell, cell_applied, cell_stepped, cell_worked, cell_after, value_written, value_or_level, back_at_access, back_at_return, back_at_release, back}
 
 -- the value and its copies, the innermost first
 abbrev pub stack : Cell → List (Option ℤ)
@@ -36,13 +36,13 @@ written_if : (b : Bool) (now value : Option ℤ) → cond b now value ≡ unwrap
 written_if true now value = refl
 written_if false now value = refl
 
-applied_written : (k : ℕ) (value : Option ℤ) (a : Access) → cell_applied k value a ≡ unwrap_or (written k a) value
+applied_written : (k : ℕ) (value : Option ℤ) (a : Access) → cell_applied k value a ≡ unwrap_or (value_written k a) value
 applied_written k value (Access.Read row) = refl
 applied_written k value (Access.Write row v) = written_if (k == row.0) (Some v) value
 applied_written k value (Access.Erase row) = written_if (k == row.0) None value
 
 tells_access : (k level : ℕ) (c : Cell) (a : Access) → Tells (stack c) (cell_applied k c.value a ∷ c.copies) level (back_at_access k level a)
-tells_access k zero c a = tells_written c.value c.copies (written k a) (cell_applied k c.value a) (applied_written k c.value a)
+tells_access k zero c a = tells_written c.value c.copies (value_written k a) (cell_applied k c.value a) (applied_written k c.value a)
 tells_access k (suc level) c a = refl
 
 tells_point : (level : ℕ) (value : Option ℤ) (copies : List (Option ℤ)) → slice_get (value ∷ value ∷ copies) level ≡ slice_get (value ∷ copies) (level - 1)
@@ -168,7 +168,7 @@ within_wrote (Some v) = tt
 within_wrote None = omega arith
 
 within_access : (k level : ℕ) (a : Access) → Within level (back_at_access k level a)
-within_access k zero a = within_wrote (written k a)
+within_access k zero a = within_wrote (value_written k a)
 within_access k (suc level) a = omega arith
 
 within_return : (level opened : ℕ) → back_at_return level opened ≤ level + 1

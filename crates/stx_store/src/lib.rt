@@ -1,4 +1,5 @@
-//! The store: transactions over rows with locks and savepoints, each reply worked out from the first values and the entries.
+//! The store: transactions over rows with locks and savepoints, each reply worked out from the first values and the
+//! entries. `specs/Store` says what contracts see of it.
 #![tactic(auto)]
 
 mod answers;

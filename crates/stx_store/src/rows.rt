@@ -3,7 +3,7 @@ ghost use Rattle.std.specs.Prelude.{◌≡◌, ◌+◌, ◌<◌, ◌^◌, length
 ghost use Rattle.std.specs.FinMap.{get};
 ghost use Rattle.stx_base.specs.Histories.{store_notes};
 ghost use Rattle.stx_base.specs.Stores.{committed_rows, work, savepoints};
-ghost use Rattle.stx_store.specs.inner.Cells.{cell_applied, cell_after, cell_committed, written, back, deeper};
+ghost use Rattle.stx_store.specs.inner.Cells.{cell_applied, cell_after, cell_committed, value_written, back, deeper};
 
 use crate::locks::answered_busy;
 use stx_base::{Access, StoreEntry, StoreNote};
@@ -47,7 +47,7 @@ fn value_applied(access: Access, row: RowNo, value: Option<i64>) -> Option<i64>
 }
 
 fn value_written(access: Access, row: RowNo) -> Option<Option<i64>>
-    ensures { result ≡ written row.0 access }
+    ensures { result ≡ value_written row.0 access }
 {
     match access {
         Access::Write(other, value) if row.0 == other.0 => Some(Some(value)),

@@ -47,10 +47,10 @@ cell_committed notes k value _ = value
 -- ---- walking back: level 0 is the value of the row, level 1 its copy at the innermost savepoint, and so on
 
 -- what an access writes to row k, if it writes it
-abbrev pub written : ℕ → Access → Option (Option ℤ)
-written k (Access.Read row) = None
-written k (Access.Write row v) = if k == row.0 then Some (Some v) else None
-written k (Access.Erase row) = if k == row.0 then Some None else None
+abbrev pub value_written : ℕ → Access → Option (Option ℤ)
+value_written k (Access.Read row) = None
+value_written k (Access.Write row v) = if k == row.0 then Some (Some v) else None
+value_written k (Access.Erase row) = if k == row.0 then Some None else None
 
 -- what was written, or else the value before
 abbrev pub value_or_level : Option (Option ℤ) → Trace
@@ -59,7 +59,7 @@ value_or_level None = Trace.Level 0
 
 -- an access changes the value and no copy
 abbrev pub back_at_access : ℕ → ℕ → Access → Trace
-back_at_access k zero a = value_or_level (written k a)
+back_at_access k zero a = value_or_level (value_written k a)
 back_at_access k (suc level) a = Trace.Level (suc level)
 
 -- the value after a return is the innermost copy before it

@@ -1,6 +1,9 @@
 -- A note more: what was said before is still its beginning, and the machine goes on.
 use Rattle.std.proofs.Common.{◌≡◌, ◌∙◌, ◌++◌, ◌∷◌, [], false, true, sym, ap, arith}
 use Rattle.stx_base.specs.Notes.{note_line}
+use Rattle.stx_model.specs.Meanings.{state_of}
+use Rattle.stx_model.specs.Reads.{StartsWith}
+use Rattle.stx_model.specs.Script.{script}
 use Rattle.stx_client.specs.inner.Holding.{has_failed, holds_connection, holds_session, connection_after, session_after}
 use Rattle.stx_client.specs.View.{pool_with, store_with}
 use Rattle.stx_client.proofs.ClientLaws.{RunsOn, going, out_is, not_failed, reads_now, starts_now, starts_with, runs_with, said_now, fed_is}
@@ -8,27 +11,8 @@ use Rattle.stx_client.proofs.client.Client.feed.Goals as goal
 
 -- ---- want of memory
 
-pub invariant_of-self : goal.invariant_of-self
-invariant_of-self c =
-    let i = c.self.inside in
-    let k = c.self.invariant.0 in
-    let ok : has_failed i.at.stage ≡ false = going k i.is_out c.args.self.now c.self.view_is c.requires.failed in
-    let note = c.note_of-note.result in
-    let pool_is : c.make_room.new.notes.pool.items ≡ pool_with i.notes.pool.items note = c.make_room.ensures.pool ∙ c.push.ensures.pool in
-    let store_is : c.make_room.new.notes.store.items ≡ store_with i.notes.store.items note = c.make_room.ensures.store ∙ c.push.ensures.store in (
-      record {
-        playable = k.playable;
-        client = k.client;
-        sound = tt;
-        runs = not_failed;
-        starts = rw (pool_is, store_is, c.make_room.ensures.lines)
-            (starts_with i.setup.now.scenario i.number i.at i.lines.items i.notes.pool.items i.notes.store.items (k.runs ok) note);
-      },
-      record { connection = not_failed; session = not_failed; pool_room = not_failed; store_room = not_failed },
-    )
-
-pub returns-in-Err-clause-script : goal.returns-in-Err-clause-script
-returns-in-Err-clause-script c =
+starts_on : (c : goal.After-self-in-Err-1) → StartsWith (state_of (script c.self.inside.setup.now.scenario c.self.inside.number c.make_room.new.notes.pool.items c.make_room.new.notes.store.items)).lines c.make_room.new.lines.items
+starts_on c =
     let i = c.self.inside in
     let k = c.self.invariant.0 in
     let ok : has_failed i.at.stage ≡ false = going k i.is_out c.args.self.now c.self.view_is c.requires.failed in
@@ -37,6 +21,16 @@ returns-in-Err-clause-script c =
     let store_is : c.make_room.new.notes.store.items ≡ store_with i.notes.store.items note = c.make_room.ensures.store ∙ c.push.ensures.store in
     rw (pool_is, store_is, c.make_room.ensures.lines)
     (starts_with i.setup.now.scenario i.number i.at i.lines.items i.notes.pool.items i.notes.store.items (k.runs ok) note)
+
+pub invariant_of-self : goal.invariant_of-self
+invariant_of-self c =
+    let k = c.self.invariant.0 in (
+      record { playable = k.playable; client = k.client; sound = tt; runs = not_failed; starts = starts_on c },
+      record { connection = not_failed; session = not_failed; pool_room = not_failed; store_room = not_failed },
+    )
+
+pub returns-in-Err-clause-script : goal.returns-in-Err-clause-script
+returns-in-Err-clause-script c = starts_on c
 
 -- ---- enough of it
 
