@@ -48,18 +48,6 @@ pub commit-reply : (facts : StoreFacts) (H : List StoreEntry) (t m : ℕ) → m 
 unfolding store_reply
 commit-reply facts H t m is = ap (λ k. Some (StoreNote.Commit t k)) (ap (λ k. k + 1) (sym (count-journal H)) ∙ sym is)
 
-pub point-reply : (facts : StoreFacts) (H : List StoreEntry) (t : ℕ) → store_reply facts H (Want.Point t) ≡ Some (StoreNote.Point t)
-unfolding store_reply
-point-reply facts H t = refl
-
-pub back-reply : (facts : StoreFacts) (H : List StoreEntry) (t : ℕ) → store_reply facts H (Want.BackTo t) ≡ Some (StoreNote.BackTo t)
-unfolding store_reply
-back-reply facts H t = refl
-
-pub release-reply : (facts : StoreFacts) (H : List StoreEntry) (t : ℕ) → store_reply facts H (Want.Release t) ≡ Some (StoreNote.Release t)
-unfolding store_reply
-release-reply facts H t = refl
-
 pub rollback-reply : (facts : StoreFacts) (H : List StoreEntry) (t : ℕ) → store_reply facts H (Want.Rollback t) ≡ Some (StoreNote.Rollback t)
 unfolding store_reply
 rollback-reply facts H t = refl

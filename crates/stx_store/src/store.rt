@@ -89,6 +89,7 @@ impl StoreCore {
     }
 
     /// Opens a savepoint in a transaction.
+    #[tactic(auto, unfolding(stx_base::specs::Stores::store_reply))]
     pub fn point(&mut self, _alloc: Global, client: u32, tx: u32) -> Result<(), NoMemory>
         requires client { client < most_clients }
         requires proper { IsTrue (store_proper (store_notes_of self.old.entries client) (Want.Point tx)) }
@@ -100,6 +101,7 @@ impl StoreCore {
     }
 
     /// Goes back to a transaction's innermost savepoint, which stays, and so do the locks.
+    #[tactic(auto, unfolding(stx_base::specs::Stores::store_reply))]
     pub fn back_to(&mut self, client: u32, tx: u32)
         requires client { client < most_clients }
         requires proper { IsTrue (store_proper (store_notes_of self.old.entries client) (Want.BackTo tx)) }
@@ -109,6 +111,7 @@ impl StoreCore {
     }
 
     /// Releases a transaction's innermost savepoint.
+    #[tactic(auto, unfolding(stx_base::specs::Stores::store_reply))]
     pub fn release(&mut self, client: u32, tx: u32)
         requires client { client < most_clients }
         requires proper { IsTrue (store_proper (store_notes_of self.old.entries client) (Want.Release tx)) }
