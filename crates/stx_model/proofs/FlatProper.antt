@@ -26,7 +26,7 @@ use Rattle.stx_base.specs.Attributes.{attribute}
 use Rattle.stx_model.specs.Contexts.{without_syncs}
 use Rattle.stx_model.specs.Faithful.{Bracket, Neither, open_after, connection_bracket, transaction_bracket}
 use Rattle.stx_base.specs.declared.history.Note.{Note}
-use Rattle.stx_base.specs.Notes.{pool_answers, store_answers, pool_line, store_line}
+use Rattle.stx_base.specs.Notes.{is_answer, pool_answers, store_answers, pool_line, store_line}
 use Rattle.stx_model.specs.Meanings.{State, Result, Over, Stops, Breaks, state_of, at_first, Meaning, and_then, finally, say, with_context, with_local, unread, hear, answered, ask, on_take, on_begin, on_access}
 use Rattle.stx_base.specs.Pools.{contains, out_after, out, pool_proper}
 use Rattle.stx_model.specs.Laws.{WantsProper, Balanced, GivesAllBack}
@@ -222,7 +222,7 @@ module _ (pool : List PoolNote) (store : List StoreNote) where
     access_stays : (a : Access) (next : Answer → Meaning) → ((r : Answer) → Stays (next r)) → Stays (access_row (in_transaction t) a next)
     unfolding ask
     access_stays a next stays st h =
-        store_asked Inside (Want.Access t a) (on_access (unless_busy (in_transaction t) next)) st st.store refl
+        asked Note.Store (λ st. st.store) Inside (Want.Access t a) (on_access (unless_busy (in_transaction t) next)) st st.store refl
         (record { taken = taken; lives = t ∷ []; holds = h; allows = refl }) by_note
       where
         by_note : (n : StoreNote) → store_answers (Want.Access t a) n ≡ true → st.store ≡ n ∷ drop 1 st.store
@@ -275,7 +275,7 @@ module _ (pool : List PoolNote) (store : List StoreNote) where
   gives_back_idle : (m : MethodNo) (c : ℕ) (x : Option ClassNo) (st : State) → At pool store (c ∷ []) [] st → EndsWell Idle (gives_back m c x st)
   unfolding gives_back ask
   gives_back_idle m c x st h =
-      pool_asked Idle (Want.Give c) (λ _ given. leaves m x (let_go given)) st st.pool refl (record { taken = c ∷ []; lives = []; holds = h; allows = refl }) by_note
+      asked Note.Pool (λ st. st.pool) Idle (Want.Give c) (λ _ given. leaves m x (let_go given)) st st.pool refl (record { taken = c ∷ []; lives = []; holds = h; allows = refl }) by_note
     where
       by_note : (n : PoolNote) → pool_answers (Want.Give c) n ≡ true → st.pool ≡ n ∷ drop 1 st.pool → EndsWell Idle (leaves m x (let_go (hear (Note.Pool n) st)))
       by_note (PoolNote.Given d) answers is =

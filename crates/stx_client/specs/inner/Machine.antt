@@ -1,4 +1,5 @@
--- What is left of a client's script at each stage of its machine.
+-- What is left of a client's script at each stage of its machine, in the words of the short form that the script has where
+-- the forms are built.
 use Rattle.std.specs.Prelude.{◌≡◌, ℕ, ◌+◌, ℤ, ◌+ℤ◌, if◌then◌else◌, ◌<◌, Bool, false, List, [], ◌∷◌, ◌++◌, drop, length, Option, Some, None, unwrap_or, ⊤}
 use Rattle.stx_scenario.specs.declared.numbers.ClassNo.{ClassNo}
 use Rattle.stx_scenario.specs.declared.numbers.MethodNo.{MethodNo}

@@ -15,7 +15,9 @@ runs_first c p s =
     let S = c.args.setup.now.scenario in
     let n = c.args.number in
     let unsaid : c.reserve.new.self.items ≡ [] = c.reserve.ensures.items ∙ c.new-lines.ensures in
-    (λ i. script S n (c.in_ok-notes.ensures.pool.0 i ++ p) (c.in_ok-notes.ensures.store.0 i ++ s)) ∙ script_is_flat S c.requires.playable.built n p s ∙ ap (λ ls. tops_from S n 0 (outside ls p s)) (sym unsaid) ∙ c.call_at-at.ensures.goes p s
+    (λ i. script S n (c.in_ok-notes.ensures.pool.0 i ++ p) (c.in_ok-notes.ensures.store.0 i ++ s)) ∙ script_is_flat S c.requires.playable.built n p s
+    ∙ ap (λ ls. tops_from S n 0 (outside ls p s)) (sym unsaid)
+    ∙ c.call_at-at.ensures.goes p s
 
 pub invariant_of-result : goal.invariant_of-result
 invariant_of-result c =
