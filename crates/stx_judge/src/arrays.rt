@@ -3,8 +3,8 @@ ghost use Rattle.std.specs.Prelude.{◌≡◌, ◌++◌, OnOk, IfOk};
 ghost use Rattle.stx_base.specs.Valid.{first_rows, own_classes};
 ghost use Rattle.stx_judge.specs.Judge.{events_faults, schedule_faults, settings_faults, rows_faults, classes_faults, beans_faults, methods_faults, syncs_faults, listeners_faults, clients_faults, scenario_faults};
 
-use crate::checks::{check_array, check_each};
-use crate::parts::{Events, Rows};
+use crate::checks::{Faults, check_array, check_each};
+use crate::parts::Parts;
 use std::alloc::Global;
 use stx_refusals::{Fault, Stage, check_count, check_place};
 use stx_scenario::{ClassDecl, List, Name, NoMemory, Scenario};
@@ -33,75 +33,85 @@ pub fn scenario_faults(alloc: Global, scenario: &Scenario) -> Result<List<Fault>
     ensures { IfOk result (λ faults. faults ≡ scenario_faults scenario.now) }
 {
     let mut faults = List::new(alloc);
-    first_faults(alloc, &mut faults, scenario)?;
-    last_faults(alloc, &mut faults, scenario)?;
+    let parts = Parts { alloc, scenario };
+    first_faults(&mut faults, &parts)?;
+    last_faults(&mut faults, &parts)?;
     Ok(faults)
 }
 
 // Up to the beans.
-fn first_faults(
-    alloc: Global,
-    faults: &mut List<Fault>,
-    scenario: &Scenario,
-) -> Result<(), NoMemory>
-    ensures { OnOk result (faults.new ≡ faults.old ++ events_faults scenario.now ++ schedule_faults scenario.now ++ settings_faults scenario.now ++ rows_faults scenario.now ++ classes_faults scenario.now) }
+fn first_faults(faults: &mut Faults, parts: &Parts) -> Result<(), NoMemory>
+    ensures { OnOk result (faults.new ≡ faults.old ++ events_faults parts.now.scenario.now ++ schedule_faults parts.now.scenario.now ++ settings_faults parts.now.scenario.now ++ rows_faults parts.now.scenario.now ++ classes_faults parts.now.scenario.now) }
 {
-    let events = scenario.events.as_slice();
-    check_array(alloc, faults, "events", MOST_PARTS, &Events, events)?;
-    let schedule = scenario.schedule.as_slice();
-    check_array(alloc, faults, "schedule", MOST_TURNS, scenario, schedule)?;
-    settings_faults(alloc, faults, scenario)?;
-    rows_faults(alloc, faults, scenario)?;
-    let classes = own_classes(scenario);
-    check_array(alloc, faults, "classes", MOST_DECLARED, scenario, classes)
+    let alloc = parts.alloc;
+    let events = parts.at("events");
+    let names = parts.scenario.events.as_slice();
+    check_array(alloc, faults, events.path, MOST_PARTS, &events, names)?;
+    let schedule = parts.scenario.schedule.as_slice();
+    check_array(alloc, faults, "schedule", MOST_TURNS, parts, schedule)?;
+    settings_faults(faults, parts)?;
+    rows_faults(faults, parts)?;
+    let classes = own_classes(parts.scenario);
+    check_array(alloc, faults, "classes", MOST_DECLARED, parts, classes)
 }
 
 // From the beans on.
-fn last_faults(alloc: Global, faults: &mut List<Fault>, scenario: &Scenario) -> Result<(), NoMemory>
-    ensures { OnOk result (faults.new ≡ faults.old ++ beans_faults scenario.now ++ methods_faults scenario.now ++ syncs_faults scenario.now ++ listeners_faults scenario.now ++ clients_faults scenario.now) }
+fn last_faults(faults: &mut Faults, parts: &Parts) -> Result<(), NoMemory>
+    ensures { OnOk result (faults.new ≡ faults.old ++ beans_faults parts.now.scenario.now ++ methods_faults parts.now.scenario.now ++ syncs_faults parts.now.scenario.now ++ listeners_faults parts.now.scenario.now ++ clients_faults parts.now.scenario.now) }
 {
-    let beans = scenario.beans.as_slice();
-    check_array(alloc, faults, "beans", MOST_PARTS, scenario, beans)?;
-    let methods = scenario.methods.as_slice();
-    check_array(alloc, faults, "methods", MOST_DECLARED, scenario, methods)?;
-    let syncs = scenario.syncs.as_slice();
-    check_array(alloc, faults, "syncs", MOST_PARTS, scenario, syncs)?;
-    let listeners = scenario.listeners.as_slice();
-    check_array(alloc, faults, "listeners", MOST_PARTS, scenario, listeners)?;
-    clients_faults(alloc, faults, scenario)
+    let alloc = parts.alloc;
+    let beans = parts.scenario.beans.as_slice();
+    check_array(alloc, faults, "beans", MOST_PARTS, parts, beans)?;
+    let methods = parts.scenario.methods.as_slice();
+    check_array(alloc, faults, "methods", MOST_DECLARED, parts, methods)?;
+    let syncs = parts.scenario.syncs.as_slice();
+    check_array(alloc, faults, "syncs", MOST_PARTS, parts, syncs)?;
+    let listeners = parts.scenario.listeners.as_slice();
+    check_array(alloc, faults, "listeners", MOST_PARTS, parts, listeners)?;
+    clients_faults(faults, parts)
 }
 
-fn settings_faults(
-    alloc: Global,
-    faults: &mut List<Fault>,
-    scenario: &Scenario,
-) -> Result<(), NoMemory>
-    ensures { OnOk result (faults.new ≡ faults.old ++ settings_faults scenario.now) }
+fn settings_faults(faults: &mut Faults, parts: &Parts) -> Result<(), NoMemory>
+    ensures { OnOk result (faults.new ≡ faults.old ++ settings_faults parts.now.scenario.now) }
 {
-    let pool = scenario.settings.pool;
+    let pool = parts.scenario.settings.pool;
     let passed = 1 <= pool && pool <= MOST_CONNECTIONS;
-    check_place(alloc, faults, "settings.pool", passed, Stage::OutOfRange)
+    check_place(
+        parts.alloc,
+        faults,
+        "settings.pool",
+        passed,
+        Stage::OutOfRange,
+    )
 }
 
-fn rows_faults(alloc: Global, faults: &mut List<Fault>, scenario: &Scenario) -> Result<(), NoMemory>
-    ensures { OnOk result (faults.new ≡ faults.old ++ rows_faults scenario.now) }
+fn rows_faults(faults: &mut Faults, parts: &Parts) -> Result<(), NoMemory>
+    ensures { OnOk result (faults.new ≡ faults.old ++ rows_faults parts.now.scenario.now) }
 {
-    let names = first_rows(scenario);
-    check_count(alloc, faults, "rows", MOST_ROWS, scenario.values.len())?;
-    check_each(alloc, faults, &Rows, names)
+    let names = first_rows(parts.scenario);
+    check_count(
+        parts.alloc,
+        faults,
+        "rows",
+        MOST_ROWS,
+        parts.scenario.values.len(),
+    )?;
+    check_each(faults, parts, names)
 }
 
-fn clients_faults(
-    alloc: Global,
-    faults: &mut List<Fault>,
-    scenario: &Scenario,
-) -> Result<(), NoMemory>
-    ensures { OnOk result (faults.new ≡ faults.old ++ clients_faults scenario.now) }
+fn clients_faults(faults: &mut Faults, parts: &Parts) -> Result<(), NoMemory>
+    ensures { OnOk result (faults.new ≡ faults.old ++ clients_faults parts.now.scenario.now) }
 {
-    let count = scenario.clients.len();
-    check_place(alloc, faults, "clients", 1 <= count, Stage::OutOfRange)?;
-    check_count(alloc, faults, "clients", MOST_CLIENTS, count)?;
-    check_each(alloc, faults, scenario, scenario.clients.as_slice())
+    let count = parts.scenario.clients.len();
+    check_place(
+        parts.alloc,
+        faults,
+        "clients",
+        1 <= count,
+        Stage::OutOfRange,
+    )?;
+    check_count(parts.alloc, faults, "clients", MOST_CLIENTS, count)?;
+    check_each(faults, parts, parts.scenario.clients.as_slice())
 }
 
 // The names that the rows section gives.

@@ -10,7 +10,7 @@ ghost use Rattle.stx_base.specs.Valid.{names_known, allowed_before_commit, allow
 ghost use Rattle.stx_judge.specs.Judge.{disallowed, sync_callback_faults, listener_callback_faults, callback_faults};
 ghost use Rattle.stx_judge.specs.Stages.{callback_refusal};
 
-use crate::checks::{Checks, check_each};
+use crate::checks::{Checks, Faults, check_each};
 use std::alloc::Global;
 use stx_classes::ClassTree;
 use stx_refusals::{Fault, ReadFault, Stage, check_entry, entry, first_at, under};
@@ -30,14 +30,19 @@ pub fn callback_fault(
     requires order { PlacesInOrder scenario.now }
     ensures { IfOk result (λ fault. fault ≡ callback_refusal scenario.now) }
 {
-    let callbacks = Callbacks { scenario, tree };
-    let faults = callbacks.faults(alloc)?;
+    let callbacks = Callbacks {
+        alloc,
+        scenario,
+        tree,
+    };
+    let faults = callbacks.faults()?;
     first_at(alloc, Stage::CallbackBody, faults.as_slice())
 }
 
 /// The callbacks of a scenario, with the tree of its classes.
 #[derive(Drop)]
 struct Callbacks<'a> {
+    alloc: Global,
     scenario: &'a Scenario,
     tree: &'a ClassTree,
     ghost tree_is: { tree.now ≡ parents_of scenario.now.classes },
@@ -46,21 +51,20 @@ struct Callbacks<'a> {
 
 impl<'a> Callbacks<'a> {
     #[tactic(auto, unfolding(crate::specs::Judge::callback_faults))]
-    fn faults(&self, alloc: Global) -> Result<List<Fault>, NoMemory>
+    fn faults(&self) -> Result<List<Fault>, NoMemory>
         requires { PlacesInOrder self.now.scenario.now }
         ensures { IfOk result (λ faults. faults ≡ callback_faults self.now.scenario.now) }
     {
-        let mut faults = List::new(alloc);
-        check_each(alloc, &mut faults, self, self.scenario.syncs.as_slice())?;
-        check_each(alloc, &mut faults, self, self.scenario.listeners.as_slice())?;
+        let mut faults = List::new(self.alloc);
+        check_each(&mut faults, self, self.scenario.syncs.as_slice())?;
+        check_each(&mut faults, self, self.scenario.listeners.as_slice())?;
         Ok(faults)
     }
 
     // The body under a key of the table at a path. All callbacks but those before the commit may hold the same.
     fn check_body(
         &self,
-        alloc: Global,
-        faults: &mut List<Fault>,
+        faults: &mut Faults,
         phase: Phase,
         path: &str,
         key: &str,
@@ -69,13 +73,13 @@ impl<'a> Callbacks<'a> {
         requires { AreKnown self.now.scenario.now body.now }
         ensures { OnOk result (faults.new ≡ faults.old ++ disallowed (allowed_in phase self.now.scenario.now) (path_under path.now key.now) body.now) }
     {
-        let path = under(alloc, path, key)?;
+        let path = under(self.alloc, path, key)?;
         let statements = Body {
             callbacks: self,
             phase,
             path: path.as_str(),
         };
-        check_each(alloc, faults, &statements, body.as_slice())
+        check_each(faults, &statements, body.as_slice())
     }
 
     fn is_allowed(&self, phase: Phase, statement: Stmt) -> bool
@@ -110,43 +114,21 @@ impl<'a> Checks<SyncDecl> for Callbacks<'a> {
 
     ghost finds = { λ callbacks. sync_callback_faults callbacks.scenario.now };
 
-    fn check(
-        &self,
-        alloc: Global,
-        faults: &mut List<Fault>,
-        at: usize,
-        sync: &SyncDecl,
-    ) -> Result<(), NoMemory> {
-        let path = entry(alloc, "syncs", at)?;
+    fn check(&self, faults: &mut Faults, at: usize, sync: &SyncDecl) -> Result<(), NoMemory> {
+        let path = entry(self.alloc, "syncs", at)?;
         let path = path.as_str();
         let before = Phase::BeforeCommit;
         let around = Phase::AfterCompletion;
+        self.check_body(faults, before, path, "before_commit", &sync.before_commit)?;
         self.check_body(
-            alloc,
-            faults,
-            before,
-            path,
-            "before_commit",
-            &sync.before_commit,
-        )?;
-        self.check_body(
-            alloc,
             faults,
             around,
             path,
             "before_completion",
             &sync.before_completion,
         )?;
+        self.check_body(faults, around, path, "after_commit", &sync.after_commit)?;
         self.check_body(
-            alloc,
-            faults,
-            around,
-            path,
-            "after_commit",
-            &sync.after_commit,
-        )?;
-        self.check_body(
-            alloc,
             faults,
             around,
             path,
@@ -162,16 +144,10 @@ impl<'a> Checks<Listener> for Callbacks<'a> {
 
     ghost finds = { λ callbacks. listener_callback_faults callbacks.scenario.now };
 
-    fn check(
-        &self,
-        alloc: Global,
-        faults: &mut List<Fault>,
-        at: usize,
-        listener: &Listener,
-    ) -> Result<(), NoMemory> {
-        let path = entry(alloc, "listeners", at)?;
+    fn check(&self, faults: &mut Faults, at: usize, listener: &Listener) -> Result<(), NoMemory> {
+        let path = entry(self.alloc, "listeners", at)?;
         let path = path.as_str();
-        self.check_body(alloc, faults, listener.phase, path, "body", &listener.body)
+        self.check_body(faults, listener.phase, path, "body", &listener.body)
     }
 }
 
@@ -188,15 +164,16 @@ impl<'a> Checks<Stmt> for Body<'a> {
 
     ghost finds = { λ body n s. refused (path_of_entry body.path.now n) (unless (allowed_in body.phase body.callbacks.now.scenario.now s) Kind.CallbackBody) };
 
-    fn check(
-        &self,
-        alloc: Global,
-        faults: &mut List<Fault>,
-        at: usize,
-        statement: &Stmt,
-    ) -> Result<(), NoMemory> {
+    fn check(&self, faults: &mut Faults, at: usize, statement: &Stmt) -> Result<(), NoMemory> {
         let passed = self.callbacks.is_allowed(self.phase, *statement);
-        check_entry(alloc, faults, self.path, at, passed, Stage::CallbackBody)
+        check_entry(
+            self.callbacks.alloc,
+            faults,
+            self.path,
+            at,
+            passed,
+            Stage::CallbackBody,
+        )
     }
 }
 

@@ -8,6 +8,8 @@ use std::alloc::Global;
 use stx_refusals::{Fault, check_count};
 use stx_scenario::{List, NoMemory};
 
+pub type Faults = List<Fault>;
+
 /// What tells the faults of an entry of a list.
 pub trait Checks<T> {
     /// The entries whose faults it can tell.
@@ -16,21 +18,14 @@ pub trait Checks<T> {
     /// The faults of the entry with a number.
     ghost finds: { Self → ℕ → T → Elements Found };
 
-    fn check(
-        &self,
-        alloc: Global,
-        faults: &mut List<Fault>,
-        at: usize,
-        entry: &T,
-    ) -> Result<(), NoMemory>
+    fn check(&self, faults: &mut Faults, at: usize, entry: &T) -> Result<(), NoMemory>
         requires { can_check self.now entry.now }
         ensures { OnOk result (faults.new ≡ faults.old ++ finds self.now at entry.now) };
 }
 
 /// The faults of each entry.
 pub fn check_each<T, C: Checks<T>>(
-    alloc: Global,
-    faults: &mut List<Fault>,
+    faults: &mut Faults,
     checks: &C,
     entries: &[T],
 ) -> Result<(), NoMemory>
@@ -38,7 +33,7 @@ pub fn check_each<T, C: Checks<T>>(
     ensures { OnOk result (faults.new ≡ faults.old ++ each_from (C.finds checks.now) 0 entries.now) }
 {
     for (at, entry) in entries.iter().enumerate() {
-        checks.check(alloc, faults, at, entry)?;
+        checks.check(faults, at, entry)?;
     }
     Ok(())
 }
@@ -46,7 +41,7 @@ pub fn check_each<T, C: Checks<T>>(
 /// The faults of an array at a path: more entries than it may have, and those of each.
 pub fn check_array<T, C: Checks<T>>(
     alloc: Global,
-    faults: &mut List<Fault>,
+    faults: &mut Faults,
     path: &str,
     most: usize,
     checks: &C,
@@ -56,5 +51,5 @@ pub fn check_array<T, C: Checks<T>>(
     ensures { OnOk result (faults.new ≡ faults.old ++ count_faults most path.now (length entries.now) ++ each_from (C.finds checks.now) 0 entries.now) }
 {
     check_count(alloc, faults, path, most, entries.len())?;
-    check_each(alloc, faults, checks, entries)
+    check_each(faults, checks, entries)
 }

@@ -1,15 +1,16 @@
 // What several tables have: names, attributes and the statements of bodies.
 ghost use Rattle.std.specs.Prelude.{◌≡◌, ◌++◌, ◌&&◌, codes, OnOk};
+ghost use Rattle.stx_scenario.specs.Names.{is_name as is_a_name};
 ghost use Rattle.stx_base.specs.Valid.{is_method as is_a_method, names_known, own_known};
 ghost use Rattle.stx_judge.specs.Judge.{name_faults, body_faults, callback_body_faults, rules_faults, tx_faults, rule_stage};
 ghost use Rattle.stx_refusals.specs.declared.fault.Stage.{Stage as Kind};
 ghost use Rattle.stx_refusals.specs.Faults.{refused, unless, under as path_under, entry as path_of_entry};
 
-use crate::checks::{Checks, check_array};
+use crate::checks::{Checks, Faults, check_array};
 use crate::references::{is_class, is_method, names_known, own_known};
 use std::alloc::Global;
 use stx_names::{is_name, is_pattern};
-use stx_refusals::{Fault, Stage, check_entry, check_key, under};
+use stx_refusals::{Stage, check_entry, check_key, under};
 use stx_scenario::{BeanNo, List, MethodNo, Name, NoMemory, Rule, RuleBy, Scenario, Stmt, TxAttr};
 
 /// The most statements of a body.
@@ -20,181 +21,168 @@ const MOST_RULES: usize = 64;
 
 /// The table or the array at a path of a scenario.
 #[derive(Drop)]
-pub struct At<'a> {
+pub struct At<'a, 'b> {
+    pub alloc: Global,
     pub scenario: &'a Scenario,
-    pub path: &'a str,
+    pub path: &'b str,
 }
 
 /// The body at a path, of a method of a bean.
 #[derive(Drop)]
-struct MethodBody<'a> {
-    scenario: &'a Scenario,
-    path: &'a str,
+struct MethodBody<'a, 'b> {
+    at: At<'a, 'b>,
     bean: BeanNo,
 }
 
-impl<'a> At<'a> {
-    /// The name of the table.
-    pub fn check_name(
+impl<'a, 'b> At<'a, 'b> {
+    /// Refuses the value under a key of the table, unless it passed.
+    pub fn check_key(
         &self,
-        alloc: Global,
-        faults: &mut List<Fault>,
-        name: &Name,
+        faults: &mut Faults,
+        key: &str,
+        passed: bool,
+        stage: Stage,
     ) -> Result<(), NoMemory>
+        ensures { OnOk result (faults.new ≡ faults.old ++ refused (path_under self.now.path.now key.now) (unless passed stage)) }
+    {
+        check_key(self.alloc, faults, self.path, key, passed, stage)
+    }
+
+    /// Refuses an entry of the array, unless it passed.
+    pub fn check_entry(
+        &self,
+        faults: &mut Faults,
+        at: usize,
+        passed: bool,
+        stage: Stage,
+    ) -> Result<(), NoMemory>
+        ensures { OnOk result (faults.new ≡ faults.old ++ refused (path_of_entry self.now.path.now at) (unless passed stage)) }
+    {
+        check_entry(self.alloc, faults, self.path, at, passed, stage)
+    }
+
+    /// Another table or array of the scenario.
+    fn to<'c>(&self, path: &'c str) -> At<'a, 'c>
+        ensures scenario { result.scenario.now ≡ self.now.scenario.now }
+        ensures path { result.path.now ≡ path.now }
+    {
+        At {
+            alloc: self.alloc,
+            scenario: self.scenario,
+            path,
+        }
+    }
+
+    /// The name of the table.
+    pub fn check_name(&self, faults: &mut Faults, name: &Name) -> Result<(), NoMemory>
         ensures { OnOk result (faults.new ≡ faults.old ++ name_faults self.now.path.now name.now) }
     {
         let passed = is_name(name.as_str());
-        check_key(alloc, faults, self.path, "name", passed, Stage::BadName)
+        self.check_key(faults, "name", passed, Stage::BadName)
     }
 
     /// The rules of the table's attribute, where it has one.
-    pub fn check_tx(
-        &self,
-        alloc: Global,
-        faults: &mut List<Fault>,
-        tx: &Option<TxAttr>,
-    ) -> Result<(), NoMemory>
+    pub fn check_tx(&self, faults: &mut Faults, tx: &Option<TxAttr>) -> Result<(), NoMemory>
         ensures { OnOk result (faults.new ≡ faults.old ++ tx_faults self.now.scenario.now self.now.path.now tx.now) }
     {
         let tx = match tx {
             Some(tx) => tx,
             None => return Ok(()),
         };
-        let path = under(alloc, self.path, "tx")?;
-        let path = under(alloc, path.as_str(), "rules")?;
-        let rules = At {
-            scenario: self.scenario,
-            path: path.as_str(),
-        };
-        check_array(
-            alloc,
-            faults,
-            rules.path,
-            MOST_RULES,
-            &rules,
-            tx.rules.as_slice(),
-        )
+        let path = under(self.alloc, self.path, "tx")?;
+        let path = under(self.alloc, path.as_str(), "rules")?;
+        let path = path.as_str();
+        let rules = tx.rules.as_slice();
+        check_array(self.alloc, faults, path, MOST_RULES, &self.to(path), rules)
     }
 
     /// The body of a method of a bean.
     pub fn check_body(
         &self,
-        alloc: Global,
-        faults: &mut List<Fault>,
+        faults: &mut Faults,
         bean: BeanNo,
         body: &List<Stmt>,
     ) -> Result<(), NoMemory>
         ensures { OnOk result (faults.new ≡ faults.old ++ body_faults self.now.scenario.now bean (path_under self.now.path.now (codes "body")) body.now) }
     {
-        let path = under(alloc, self.path, "body")?;
-        let statements = MethodBody {
-            scenario: self.scenario,
-            path: path.as_str(),
-            bean,
-        };
-        check_array(
-            alloc,
-            faults,
-            statements.path,
-            MOST_STATEMENTS,
-            &statements,
-            body.as_slice(),
-        )
+        let path = under(self.alloc, self.path, "body")?;
+        let path = path.as_str();
+        let at = self.to(path);
+        let statements = MethodBody { at, bean };
+        let body = body.as_slice();
+        check_array(self.alloc, faults, path, MOST_STATEMENTS, &statements, body)
     }
 
     /// The body of a callback, under a key.
     pub fn check_callback(
         &self,
-        alloc: Global,
-        faults: &mut List<Fault>,
+        faults: &mut Faults,
         key: &str,
         body: &List<Stmt>,
     ) -> Result<(), NoMemory>
         ensures { OnOk result (faults.new ≡ faults.old ++ callback_body_faults self.now.scenario.now (path_under self.now.path.now key.now) body.now) }
     {
-        let path = under(alloc, self.path, key)?;
-        let statements = At {
-            scenario: self.scenario,
-            path: path.as_str(),
-        };
-        check_array(
-            alloc,
-            faults,
-            statements.path,
-            MOST_STATEMENTS,
-            &statements,
-            body.as_slice(),
-        )
+        let path = under(self.alloc, self.path, key)?;
+        let path = path.as_str();
+        let statements = self.to(path);
+        let body = body.as_slice();
+        check_array(self.alloc, faults, path, MOST_STATEMENTS, &statements, body)
     }
 }
 
-impl<'a> Checks<Rule> for At<'a> {
+// The names of the events.
+impl<'a, 'b> Checks<Name> for At<'a, 'b> {
+    ghost finds = { λ array n name. refused (path_of_entry array.path.now n) (unless (is_a_name name) Kind.BadName) };
+
+    fn check(&self, faults: &mut Faults, at: usize, name: &Name) -> Result<(), NoMemory> {
+        let passed = is_name(name.as_str());
+        self.check_entry(faults, at, passed, Stage::BadName)
+    }
+}
+
+impl<'a, 'b> Checks<Rule> for At<'a, 'b> {
     ghost finds = { λ array n rule. refused (path_of_entry array.path.now n) (rule_stage array.scenario.now rule.by) };
 
-    fn check(
-        &self,
-        alloc: Global,
-        faults: &mut List<Fault>,
-        at: usize,
-        rule: &Rule,
-    ) -> Result<(), NoMemory> {
+    fn check(&self, faults: &mut Faults, at: usize, rule: &Rule) -> Result<(), NoMemory> {
         match &rule.by {
             RuleBy::Class(class) => {
                 let passed = is_class(self.scenario, *class);
-                check_entry(alloc, faults, self.path, at, passed, Stage::UnknownRef)
+                self.check_entry(faults, at, passed, Stage::UnknownRef)
             }
             RuleBy::Pattern(pattern) => {
                 let passed = is_pattern(pattern.as_str());
-                check_entry(alloc, faults, self.path, at, passed, Stage::BadWord)
+                self.check_entry(faults, at, passed, Stage::BadWord)
             }
         }
     }
 }
 
 // The calls of a client.
-impl<'a> Checks<MethodNo> for At<'a> {
+impl<'a, 'b> Checks<MethodNo> for At<'a, 'b> {
     ghost finds = { λ array n m. refused (path_of_entry array.path.now n) (unless (is_a_method array.scenario.now m) Kind.UnknownRef) };
 
-    fn check(
-        &self,
-        alloc: Global,
-        faults: &mut List<Fault>,
-        at: usize,
-        method: &MethodNo,
-    ) -> Result<(), NoMemory> {
+    fn check(&self, faults: &mut Faults, at: usize, method: &MethodNo) -> Result<(), NoMemory> {
         let passed = is_method(self.scenario, *method);
-        check_entry(alloc, faults, self.path, at, passed, Stage::UnknownRef)
+        self.check_entry(faults, at, passed, Stage::UnknownRef)
     }
 }
 
 // The statements of a callback.
-impl<'a> Checks<Stmt> for At<'a> {
+impl<'a, 'b> Checks<Stmt> for At<'a, 'b> {
     ghost finds = { λ array n s. refused (path_of_entry array.path.now n) (unless (names_known array.scenario.now s) Kind.UnknownRef) };
 
-    fn check(
-        &self,
-        alloc: Global,
-        faults: &mut List<Fault>,
-        at: usize,
-        statement: &Stmt,
-    ) -> Result<(), NoMemory> {
+    fn check(&self, faults: &mut Faults, at: usize, statement: &Stmt) -> Result<(), NoMemory> {
         let passed = names_known(self.scenario, *statement);
-        check_entry(alloc, faults, self.path, at, passed, Stage::UnknownRef)
+        self.check_entry(faults, at, passed, Stage::UnknownRef)
     }
 }
 
-impl<'a> Checks<Stmt> for MethodBody<'a> {
-    ghost finds = { λ body n s. refused (path_of_entry body.path.now n) (unless (names_known body.scenario.now s && own_known body.scenario.now body.bean s) Kind.UnknownRef) };
+impl<'a, 'b> Checks<Stmt> for MethodBody<'a, 'b> {
+    ghost finds = { λ body n s. refused (path_of_entry body.at.path.now n) (unless (names_known body.at.scenario.now s && own_known body.at.scenario.now body.bean s) Kind.UnknownRef) };
 
-    fn check(
-        &self,
-        alloc: Global,
-        faults: &mut List<Fault>,
-        at: usize,
-        statement: &Stmt,
-    ) -> Result<(), NoMemory> {
-        let passed = is_known_in(self.scenario, self.bean, *statement);
-        check_entry(alloc, faults, self.path, at, passed, Stage::UnknownRef)
+    fn check(&self, faults: &mut Faults, at: usize, statement: &Stmt) -> Result<(), NoMemory> {
+        let passed = is_known_in(self.at.scenario, self.bean, *statement);
+        self.at.check_entry(faults, at, passed, Stage::UnknownRef)
     }
 }
 
