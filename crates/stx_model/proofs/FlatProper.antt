@@ -155,20 +155,13 @@ module _ (pool : List PoolNote) (store : List StoreNote) where
   tested after true next st rest goes = goes refl
   tested after false next st rest goes = rest
 
-  pool_asked : (after : State → Type 0) (w : Want) (next : Note → Meaning) (st : State) (left : List PoolNote) → st.pool ≡ left → StopsWell pool store w st
-      → ((n : PoolNote) → pool_answers w n ≡ true → st.pool ≡ n ∷ drop 1 st.pool → EndsWell after (next (Note.Pool n) (hear (Note.Pool n) st)))
-      → EndsWell after (answered w next st (option_map Note.Pool (slice_get left 0)))
-  pool_asked after w next st [] is stops goes = stops
-  pool_asked after w next st (n ∷ ns) is stops goes =
-      tested after (pool_answers w n) (next (Note.Pool n) (hear (Note.Pool n) st)) st (remains stops.taken stops.lives st stops.holds)
-      (λ answers. goes n answers (is ∙ ap (λ ms. n ∷ drop 1 ms) (sym is)))
-
-  store_asked : (after : State → Type 0) (w : Want) (next : Note → Meaning) (st : State) (left : List StoreNote) → st.store ≡ left → StopsWell pool store w st
-      → ((n : StoreNote) → store_answers w n ≡ true → st.store ≡ n ∷ drop 1 st.store → EndsWell after (next (Note.Store n) (hear (Note.Store n) st)))
-      → EndsWell after (answered w next st (option_map Note.Store (slice_get left 0)))
-  store_asked after w next st [] is stops goes = stops
-  store_asked after w next st (n ∷ ns) is stops goes =
-      tested after (store_answers w n) (next (Note.Store n) (hear (Note.Store n) st)) st (remains stops.taken stops.lives st stops.holds)
+  -- the first of the notes that are left answers the call, or none is left
+  asked : {N : Type 0} (note : N → Note) (notes : State → List N) (after : State → Type 0) (w : Want) (next : Note → Meaning) (st : State) (left : List N) → notes st ≡ left → StopsWell pool store w st
+      → ((n : N) → is_answer w (note n) ≡ true → notes st ≡ n ∷ drop 1 (notes st) → EndsWell after (next (note n) (hear (note n) st)))
+      → EndsWell after (answered w next st (option_map note (slice_get left 0)))
+  asked note notes after w next st [] is stops goes = stops
+  asked note notes after w next st (n ∷ ns) is stops goes =
+      tested after (is_answer w (note n)) (next (note n) (hear (note n) st)) st (remains stops.taken stops.lives st stops.holds)
       (λ answers. goes n answers (is ∙ ap (λ ms. n ∷ drop 1 ms) (sym is)))
 
   hears_pool : (before taken lives : List ℕ) (n : PoolNote) (st : State) → At pool store before lives st → st.pool ≡ n ∷ drop 1 st.pool
@@ -321,10 +314,10 @@ module _ (pool : List PoolNote) (store : List StoreNote) where
       at_rollback (StoreNote.Auto b r) answers is = absurd (false≢true answers)
 
       rolls_back : EndsWell Idle (answered (Want.Rollback t) next st (option_map Note.Store (slice_get st.store 0)))
-      rolls_back = store_asked Idle (Want.Rollback t) next st st.store refl (record { taken = c ∷ []; lives = t ∷ []; holds = h; allows = refl }) at_rollback
+      rolls_back = asked Note.Store (λ st. st.store) Idle (Want.Rollback t) next st st.store refl (record { taken = c ∷ []; lives = t ∷ []; holds = h; allows = refl }) at_rollback
 
       by_ending : (e : Ending) → EndsWell Idle (answered (ending_call t e) next st (unread (ending_call t e) st))
-      by_ending Ending.Commit = store_asked Idle (Want.Commit t) next st st.store refl (record { taken = c ∷ []; lives = t ∷ []; holds = h; allows = refl }) at_commit
+      by_ending Ending.Commit = asked Note.Store (λ st. st.store) Idle (Want.Commit t) next st st.store refl (record { taken = c ∷ []; lives = t ∷ []; holds = h; allows = refl }) at_commit
       by_ending Ending.Rollback = rolls_back
       by_ending Ending.Unexpected = rolls_back
 
@@ -348,7 +341,7 @@ module _ (pool : List PoolNote) (store : List StoreNote) where
   begins_idle : (S : Scenario) (m : MethodNo) (a : TxAttr) (c : ℕ) (st : State) → At pool store (c ∷ []) [] st → EndsWell Idle (begins S m a (Some c) st)
   unfolding begins ask
   begins_idle S m a c st h =
-      store_asked Idle Want.Begin (on_begin (λ t. opened S m a c t)) st st.store refl (record { taken = c ∷ []; lives = []; holds = h; allows = tt }) by_note
+      asked Note.Store (λ st. st.store) Idle Want.Begin (on_begin (λ t. opened S m a c t)) st st.store refl (record { taken = c ∷ []; lives = []; holds = h; allows = tt }) by_note
     where
       by_note : (n : StoreNote) → store_answers Want.Begin n ≡ true → st.store ≡ n ∷ drop 1 st.store → EndsWell Idle (on_begin (λ t. opened S m a c t) (Note.Store n) (hear (Note.Store n) st))
       by_note (StoreNote.Begin t) answers is =
@@ -372,7 +365,7 @@ module _ (pool : List PoolNote) (store : List StoreNote) where
   fresh_idle : (S : Scenario) (m : MethodNo) (a : TxAttr) (st : State) → Idle st → EndsWell Idle (fresh S m a st)
   unfolding fresh ask
   fresh_idle S m a st h =
-      pool_asked Idle Want.Take (on_take (begins S m a)) st st.pool refl (record { taken = []; lives = []; holds = h; allows = tt }) by_note
+      asked Note.Pool (λ st. st.pool) Idle Want.Take (on_take (begins S m a)) st st.pool refl (record { taken = []; lives = []; holds = h; allows = tt }) by_note
     where
       by_note : (n : PoolNote) → pool_answers Want.Take n ≡ true → st.pool ≡ n ∷ drop 1 st.pool → EndsWell Idle (on_take (begins S m a) (Note.Pool n) (hear (Note.Pool n) st))
       by_note (PoolNote.Taken c) answers is = begins_idle S m a c (hear (Note.Pool (PoolNote.Taken c)) st) (hears_pool [] (c ∷ []) [] (PoolNote.Taken c) st h is refl refl)
