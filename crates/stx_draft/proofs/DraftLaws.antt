@@ -1,7 +1,6 @@
 -- The scenario that a document states: the rows that only statements name are names, and each is new.
-use Rattle.std.proofs.Common.{◌≡◌, ℕ, ◌+◌, ℤ, pos, Bool, true, false, ◌&&◌, List, [], ◌∷◌, ◌++◌, codes, length, map, take, drop, fold, if◌then◌else◌, Option, Some, None, refl, sym, ap, ◌∙◌, subst, append_assoc, append-nil, length-append, arith, inl, inr}
+use Rattle.std.proofs.Common.{◌≡◌, ℕ, ◌+◌, ℤ, pos, Bool, true, false, ◌&&◌, List, [], ◌∷◌, ◌++◌, codes, length, map, take, drop, fold, if◌then◌else◌, Option, Some, None, refl, sym, ap, ◌∙◌, subst, append_assoc, append-nil, inl, inr}
 use Rattle.std.proofs.lemmas.Bool.{cases_Bool, and_parts}
-use Rattle.std.proofs.lemmas.List.{length-map}
 use Rattle.std.proofs.lemmas.List.Concat.{flat_map-cons}
 use Rattle.std.proofs.lemmas.List.Folds.{list_all-append}
 use Rattle.std.proofs.lemmas.Grind.{flat_map-append}
@@ -9,7 +8,6 @@ use Rattle.std.specs.List.{list_all, flat_map, filter_map, cons_option}
 use Rattle.std.specs.Option.{option_map, option_and_then}
 use Rattle.std.specs.Str.{bytes_eq}
 use Rattle.toml.specs.Data.{Members}
-use Rattle.stx_scenario.specs.declared.scenario.Scenario.{Scenario}
 use Rattle.stx_scenario.specs.declared.scenario.ClassDecl.{ClassDecl}
 use Rattle.stx_scenario.specs.declared.scenario.Settings.{Settings}
 use Rattle.stx_scenario.specs.declared.scenario.Bean.{Bean}
@@ -22,10 +20,9 @@ use Rattle.stx_names.specs.declared.numbered.Numbered.{Numbered}
 use Rattle.stx_names.specs.declared.sentence.Sentence.{Sentence}
 use Rattle.stx_scenario.specs.Names.{is_name, has_name, duplicate_from}
 use Rattle.stx_names.specs.Integers.{number_in}
-use Rattle.stx_names.specs.Sentences.{name_in, class_in, method_in, call_of, alone, about, of_value, with_value, catching, with_catch, sentence_of, sentence_in, words_of}
+use Rattle.stx_names.specs.Sentences.{name_in, class_in, method_in, call_of, about, of_value, with_value, catching, with_catch, sentence_of, sentence_in, words_of}
 use Rattle.stx_draft.specs.Parts.{texts_at, tables_at, numbers_at, number_at}
-use Rattle.stx_draft.specs.DeclaredNames.{names_in}
-use Rattle.stx_draft.specs.Draft.{row_said, with_rows, sentences_at, callback_sentences, sentences_of, all_names, class_in as class_stated, bean_in, method_in_table, sync_in, listener_in, calls_in, natural, settings_of, drafted}
+use Rattle.stx_draft.specs.Draft.{row_said, sentences_at, callback_sentences, sentences_of, all_names, class_in as class_stated, bean_in, method_in_table, sync_in, listener_in, calls_in, natural, settings_of, drafted}
 use Rattle.stx_names.specs.Numbers.{with_name}
 
 -- ---- a statement's row is a name

@@ -1,6 +1,5 @@
 -- The rows that statements name, one statement, body or table after the other.
-use Rattle.std.proofs.Common.{◌≡◌, ℕ, ◌+◌, ◌<◌, ◌≤◌, List, [], ◌∷◌, ◌++◌, codes, length, map, take, get_or, fold, refl, sym, ap, ◌∙◌, append-nil}
-use Rattle.std.proofs.lemmas.List.{take_more, take_all}
+use Rattle.std.proofs.Common.{◌≡◌, ℕ, List, ◌++◌, codes, map, sym, ap, ◌∙◌}
 use Rattle.std.proofs.lemmas.List.Folds.{flat_map-map}
 use Rattle.std.proofs.lemmas.Grind.{fold-append, flat_map-append}
 use Rattle.std.specs.List.{flat_map}
@@ -9,7 +8,6 @@ use Rattle.stx_names.specs.declared.sentence.Sentence.{Sentence}
 use Rattle.stx_names.specs.declared.named.Named.{Named}
 use Rattle.stx_draft.specs.Parts.{tables_at}
 use Rattle.stx_draft.specs.DeclaredNames.{names_in}
-use Rattle.stx_scenario.specs.Names.{built_in_names}
 use Rattle.stx_draft.specs.Draft.{numbered_by, all_names, row_said, with_rows, sentences_at, callback_sentences, sentences_of}
 use Rattle.stx_names.specs.Numbers.{with_name}
 

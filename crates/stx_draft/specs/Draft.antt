@@ -1,13 +1,10 @@
 -- The scenario that a document states, where its places are right one by one: names become numbers, and a name of nothing
 -- becomes a number that nothing has.
-use Rattle.std.specs.Prelude.{ℕ, ℤ, pos, negsuc, true, false, nat_lt, if◌then◌else◌, List, [], ◌∷◌, ◌++◌, codes, map, position, fold, Option, Some, None, unwrap_or}
+use Rattle.std.specs.Prelude.{ℕ, ℤ, pos, negsuc, true, false, nat_lt, if◌then◌else◌, List, [], ◌∷◌, ◌++◌, codes, map, fold, Option, Some, None, unwrap_or}
 use Rattle.std.specs.Option.{option_map}
 use Rattle.std.specs.List.{filter_map, flat_map}
-use Rattle.std.specs.Str.{bytes_eq}
 use Rattle.toml.specs.Data.{Members}
-use Rattle.stx_scenario.specs.declared.numbers.ClassNo.{ClassNo}
 use Rattle.stx_scenario.specs.declared.numbers.MethodNo.{MethodNo}
-use Rattle.stx_scenario.specs.declared.numbers.RowNo.{RowNo}
 use Rattle.stx_scenario.specs.declared.scenario.Scenario.{Scenario}
 use Rattle.stx_scenario.specs.declared.scenario.Settings.{Settings}
 use Rattle.stx_scenario.specs.declared.scenario.SyncMode.{SyncMode}
@@ -33,7 +30,7 @@ use Rattle.stx_names.specs.Sentences.{sentence_in, rule_in, method_in}
 use Rattle.stx_names.specs.Integers.{is_order}
 use Rattle.stx_names.specs.Numbers.{with_name, number_of, class_no, row_no, method_no, own_method_no, catch_no, nothing}
 use Rattle.stx_draft.specs.Parts.{text_at, number_at, flag_at, table_at, texts_at, numbers_at, tables_at}
-use Rattle.stx_scenario.specs.Names.{has_name, built_in_names}
+use Rattle.stx_scenario.specs.Names.{built_in_names}
 use Rattle.stx_draft.specs.DeclaredNames.{names_in}
 
 -- ---- sentences

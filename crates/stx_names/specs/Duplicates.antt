@@ -8,7 +8,7 @@ use Rattle.stx_scenario.specs.BuiltIn.{built_in}
 use Rattle.stx_refusals.specs.declared.fault.ReadFault.{ReadFault}
 use Rattle.stx_names.specs.declared.named.Named.{Named}
 use Rattle.stx_refusals.specs.Faults.{under, entry, first_some}
-use Rattle.stx_scenario.specs.Names.{has_name, duplicate_from, built_in_names}
+use Rattle.stx_scenario.specs.Names.{duplicate_from, built_in_names}
 
 -- ---- the groups
 

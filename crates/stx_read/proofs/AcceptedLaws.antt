@@ -1,11 +1,11 @@
 -- What a document says of its parts where the stages on single places refuse nothing in it.
-use Rattle.std.proofs.Common.{◌≡◌, ℕ, suc, ◌+◌, ◌<◌, ◌≤◌, ℤ, pos, Bool, true, false, ◌||◌, cond, nat_lt, nat_le, List, [], ◌∷◌, ◌++◌, codes, length, map, Option, Some, None, IfSome, unwrap_or, inl, inr, refl, sym, ap, ◌∙◌, subst, arith}
+use Rattle.std.proofs.Common.{◌≡◌, ℕ, suc, ◌+◌, ◌≤◌, ℤ, pos, Bool, true, false, ◌||◌, cond, nat_lt, nat_le, List, [], ◌∷◌, ◌++◌, codes, length, Option, Some, None, IfSome, unwrap_or, inl, inr, refl, ap, subst, arith}
 use Rattle.std.proofs.lemmas.Bool.{cases_Bool, false≢true, ltb-false}
 use Rattle.std.proofs.lemmas.List.Elements.{All-nil, All-cons}
 use Rattle.std.proofs.lemmas.List.Concat.{flat_map-cons}
 use Rattle.std.specs.List.{All, flat_map, filter_map}
 use Rattle.std.specs.Option.{option_and_then, is_some}
-use Rattle.toml.specs.Data.{Data, string, integer, float, boolean, datetime, array, table, Items, no_items, item, Members, get_member, as_str, as_integer, as_bool, as_array, as_table}
+use Rattle.toml.specs.Data.{Data, string, integer, float, boolean, datetime, array, table, Items, no_items, item, Members, get_member, as_str, as_integer, as_array, as_table}
 use Rattle.stx_scenario.specs.Names.{is_name, is_class_name}
 use Rattle.stx_names.specs.Integers.{is_pool, is_client}
 use Rattle.stx_names.specs.Sentences.{sentence_in, rule_in}
@@ -18,7 +18,7 @@ use Rattle.stx_draft.specs.declared.schema.Shape.{Shape}
 use Rattle.stx_draft.specs.declared.schema.Leaf.{Leaf}
 use Rattle.stx_draft.specs.declared.schema.Kind.{Kind}
 use Rattle.stx_draft.specs.Schema.{Key, required, optional, root_keys, keys_of, leaf_stage, text_stage, number_stage, flag_stage}
-use Rattle.stx_draft.specs.Walk.{TableWalk, count, missing, each_item, entry_faults, value_faults, found_faults, key_faults, unknown_faults, table_faults, walk, document_faults}
+use Rattle.stx_draft.specs.Walk.{count, missing, each_item, entry_faults, found_faults, key_faults, unknown_faults, table_faults, walk, document_faults}
 use Rattle.stx_draft.specs.Parts.{text_at, number_at, table_at, entries, texts_at, tables_at, numbers_at}
 use Rattle.stx_names.specs.Duplicates.{duplicate_among}
 use Rattle.stx_draft.specs.DeclaredNames.{names_in}

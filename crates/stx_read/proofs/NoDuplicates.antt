@@ -1,6 +1,6 @@
 -- Names that all differ in a document differ in its draft, where all that is named is there: methods are told apart by the
 -- numbers of their beans as by their names.
-use Rattle.std.proofs.Common.{◌≡◌, ℕ, ◌+◌, ◌<◌, ◌≤◌, ◌^◌, ◌%◌, ◌==◌, Bool, true, false, ◌||◌, cond, List, [], ◌∷◌, ◌++◌, codes, length, map, take, drop, get_or, Option, Some, None, unwrap_or, inl, inr, refl, sym, ap, ◌∙◌, subst, arith, append_assoc, append-nil}
+use Rattle.std.proofs.Common.{◌≡◌, ℕ, ◌+◌, ◌<◌, ◌≤◌, ◌^◌, ◌%◌, ◌==◌, true, false, List, [], ◌∷◌, ◌++◌, codes, length, map, get_or, Option, Some, None, unwrap_or, inl, inr, refl, sym, ap, ◌∙◌, subst, arith, append_assoc}
 use Rattle.std.proofs.lemmas.Bool.{cases_Bool, false≢true}
 use Rattle.std.proofs.lemmas.Bool.Decides.{nat_tests}
 use Rattle.std.proofs.lemmas.Fmt.{decimal_by_steps, decimal_injective}
@@ -15,14 +15,13 @@ use Rattle.std.specs.Fmt.{decimal}
 use Rattle.std.specs.List.{All, slice_split, join_with_byte, position, drop-map}
 use Rattle.std.specs.Str.{bytes_eq}
 use Rattle.toml.specs.Data.{Members}
-use Rattle.stx_scenario.specs.declared.scenario.Scenario.{Scenario}
 use Rattle.stx_scenario.specs.declared.scenario.ClassDecl.{ClassDecl}
 use Rattle.stx_scenario.specs.declared.scenario.Bean.{Bean}
 use Rattle.stx_scenario.specs.declared.scenario.SyncDecl.{SyncDecl}
 use Rattle.stx_scenario.specs.declared.scenario.Listener.{Listener}
 use Rattle.stx_scenario.specs.BuiltIn.{built_in}
 use Rattle.stx_scenario.specs.Names.{has_name, duplicate_from, built_in_names}
-use Rattle.stx_base.specs.Valid.{first_rows, MethodInOrder, PlacesInOrder}
+use Rattle.stx_base.specs.Valid.{MethodInOrder, PlacesInOrder}
 use Rattle.stx_names.specs.declared.named.Named.{Named}
 use Rattle.stx_names.specs.Numbers.{number_of, nothing}
 use Rattle.stx_names.specs.Duplicates.{duplicate_among, names_of, method_text, number_of_method}

@@ -1,5 +1,5 @@
 -- The draft of a document in which the stages on single places refuse nothing: they refuse nothing in it either.
-use Rattle.std.proofs.Common.{◌≡◌, ℕ, suc, ◌+◌, ◌<◌, ◌≤◌, ℤ, pos, negsuc, Bool, true, false, ◌==◌, nat_lt, nat_le, if◌then◌else◌, List, [], ◌∷◌, ◌++◌, codes, length, map, take, drop, Option, Some, None, IfSome, unwrap_or, inl, inr, refl, sym, ap, ◌∙◌, subst, arith}
+use Rattle.std.proofs.Common.{◌≡◌, ℕ, suc, ◌≤◌, ℤ, pos, negsuc, Bool, true, false, ◌==◌, nat_lt, nat_le, if◌then◌else◌, List, [], ◌∷◌, ◌++◌, codes, length, map, Option, Some, None, IfSome, unwrap_or, inl, inr, refl, sym, ◌∙◌, subst, arith}
 use Rattle.std.proofs.lemmas.Bool.{cases_Bool, false≢true}
 use Rattle.std.proofs.lemmas.List.{length-map}
 use Rattle.std.proofs.lemmas.List.Elements.{All-nil, All-cons}
@@ -20,7 +20,7 @@ use Rattle.stx_names.specs.Sentences.{words_of, pattern_in, class_in, matched_in
 use Rattle.stx_refusals.specs.declared.fault.Fault.{Fault}
 use Rattle.stx_refusals.specs.declared.fault.Stage.{Stage}
 use Rattle.stx_refusals.specs.declared.fault.Stage.TheVariants.{BadName, OutOfRange, TooMany, BadWord, UnknownRef}
-use Rattle.stx_refusals.specs.Faults.{under, entry, refused, unless, count_stage, count_faults, each_from, first_at, is_stage}
+use Rattle.stx_refusals.specs.Faults.{under, entry, refused, unless, count_stage, count_faults, each_from, is_stage}
 use Rattle.stx_refusals.proofs.QuietLaws.{Quiet, both_true, quiet_append, quiet_unless, quiet_other, quiet_few, quiet_mapped, quiet_listed, first_none}
 use Rattle.stx_draft.specs.declared.schema.Shape.{Shape}
 use Rattle.stx_draft.specs.DeclaredNames.{names_in}
@@ -28,7 +28,7 @@ use Rattle.stx_draft.specs.Document.{refused_in}
 use Rattle.stx_draft.specs.Draft
 use Rattle.stx_draft.specs.Draft.{natural, drafted, all_names, row_said, sentences_of}
 use Rattle.stx_draft.specs.Parts.{text_at, number_at, table_at, texts_at, numbers_at, tables_at}
-use Rattle.stx_draft.proofs.DraftLaws.{Added, added, are_names-document, take-first, drop-first}
+use Rattle.stx_draft.proofs.DraftLaws.{added, are_names-document, take-first, drop-first}
 use Rattle.stx_judge.specs.Judge
 use Rattle.stx_judge.specs.Stages.{PlacesQuiet}
 use Rattle.stx_read.proofs.AcceptedLaws.{Walked, TablesIn, Accepted, accepted, row_named, class_named, bean_named, method_named, sync_named, listener_named, bean_tx, method_tx, few_rules, few_calls, method_few, listener_few, before_commit_few, before_completion_few, after_commit_few, after_completion_few, pool_within}

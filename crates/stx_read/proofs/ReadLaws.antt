@@ -1,7 +1,6 @@
 -- What is read is valid.
 use Rattle.std.proofs.Common.{◌≡◌, ℕ, List, [], ◌∷◌, Option, Some, None, codes, length, map, take, refl, sym, ◌∙◌}
 use Rattle.toml.specs.Data.{Members}
-use Rattle.stx_scenario.specs.declared.scenario.Scenario.{Scenario}
 use Rattle.stx_scenario.specs.BuiltIn.{built_in}
 use Rattle.stx_refusals.specs.declared.fault.ReadFault.{ReadFault}
 use Rattle.stx_refusals.specs.declared.fault.Stage.TheVariants.{UnknownRef}

@@ -1,15 +1,10 @@
 -- The scenario that the bytes of a file state, or the first refusal: by stage, and within a stage by walk order.
-use Rattle.std.specs.Prelude.{ℕ, if◌then◌else◌, List, [], ◌∷◌, Option, Some, None, Result, Ok, Err}
-use Rattle.std.specs.Str.{is_utf8}
+use Rattle.std.specs.Prelude.{ℕ, List, [], ◌∷◌, Option, Some, None, Result, Ok, Err}
 use Rattle.toml.specs.Data.{Members}
-use Rattle.toml.specs.Parse.{parse_document}
 use Rattle.stx_scenario.specs.declared.scenario.Scenario.{Scenario}
 use Rattle.stx_refusals.specs.declared.fault.ReadFault.{ReadFault}
 use Rattle.stx_refusals.specs.declared.fault.Stage.{Stage}
 use Rattle.stx_refusals.specs.Faults.{first_at, first_some}
-use Rattle.stx_draft.specs.Walk.{document_faults}
-use Rattle.stx_names.specs.Duplicates.{duplicate_among}
-use Rattle.stx_draft.specs.DeclaredNames.{names_in}
 use Rattle.stx_draft.specs.Document.{document_of, refused_in}
 use Rattle.stx_draft.specs.Draft.{drafted}
 use Rattle.stx_judge.specs.Judge.{scenario_faults, judged}

@@ -1,6 +1,6 @@
 -- The built-in names all differ.
 use Rattle.std.proofs.Common.{◌≡◌, ◌∙◌, ap, map}
-use Rattle.stx_scenario.specs.Names.{duplicate_from, built_in_names}
+use Rattle.stx_scenario.specs.Names.{built_in_names}
 use Rattle.stx_names.proofs.DuplicateLaws.{built_in_differ}
 use Rattle.stx_names.proofs.duplicates.built_in_numbers.Goals as goal
 

@@ -1,5 +1,5 @@
 -- A name that is seen again, one more, and none left.
-use Rattle.std.proofs.Common.{◌∙◌, sym}
+use Rattle.std.proofs.Common.{◌∙◌}
 use Rattle.stx_names.proofs.DuplicateLaws.{seen_again, not_seen, all_so_far, none_seen}
 use Rattle.stx_names.proofs.duplicates.first_seen.Goals as goal
 

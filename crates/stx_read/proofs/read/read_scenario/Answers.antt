@@ -1,4 +1,4 @@
-use Rattle.std.proofs.Common.{◌≡◌, ◌∙◌, None, Ok, length, take, sym, ap, subst}
+use Rattle.std.proofs.Common.{◌∙◌, Ok, length, take, sym, ap, subst}
 use Rattle.toml.specs.View.{table_view}
 use Rattle.stx_scenario.specs.declared.scenario.Scenario.{Scenario}
 use Rattle.stx_scenario.specs.BuiltIn.{built_in}
