@@ -28,9 +28,9 @@ more_known : (few many a : ℕ) (o : Option ℕ) → few ≤ many → is_unknown
 more_known few many a None more known = known
 more_known few many a (Some parent) more known = let below = leb-false few parent known in grind (arith, below)
 
-own_known : (S : Scenario) (a : ℕ) (o : Option ClassNo) → parent_known S o ≡ true → is_unknown (length S.classes) a (number_above o) ≡ false
-own_known S a None known = absurd (false≢true known)
-own_known S a (Some class) known = let below = ltb-true class.0 (length S.classes) known in grind (arith, below)
+own_parent_known : (S : Scenario) (a : ℕ) (o : Option ClassNo) → parent_known S o ≡ true → is_unknown (length S.classes) a (number_above o) ≡ false
+own_parent_known S a None known = absurd (false≢true known)
+own_parent_known S a (Some class) known = let below = ltb-true class.0 (length S.classes) known in grind (arith, below)
 
 no_class : ClassDecl
 no_class = record { name = []; parent = None }
@@ -59,7 +59,7 @@ known_own S own a many within =
     get_or-drop 17 S.classes (a - 17) no_class ∙ ap (λ (k : ℕ). get_or S.classes k no_class) place in
     let known : parent_known S (get_or S.classes a no_class).parent ≡ true =
     ap (λ (class : ClassDecl). parent_known S class.parent) (sym same) ∙ order.parent in
-    ap (is_unknown (length S.classes) a) (parent_at S.classes a no_class within) ∙ own_known S a _ known
+    ap (is_unknown (length S.classes) a) (parent_at S.classes a no_class within) ∙ own_parent_known S a _ known
 
 known_at : (S : Scenario) → take (length built_in) S.classes ≡ built_in → AllOwn S → (a : ℕ) → a < length S.classes
     → is_unknown (length S.classes) a (parent_in (parents_of S.classes) a) ≡ false

@@ -44,7 +44,7 @@ fn first_faults(faults: &mut Faults, parts: &Parts) -> Result<(), NoMemory>
     ensures { OnOk result (faults.new ≡ faults.old ++ events_faults parts.now.scenario.now ++ schedule_faults parts.now.scenario.now ++ settings_faults parts.now.scenario.now ++ rows_faults parts.now.scenario.now ++ classes_faults parts.now.scenario.now) }
 {
     let alloc = parts.alloc;
-    let events = parts.at("events");
+    let events = parts.place("events");
     let names = parts.scenario.events.as_slice();
     check_array(alloc, faults, events.path, MOST_PARTS, &events, names)?;
     let schedule = parts.scenario.schedule.as_slice();
@@ -74,43 +74,29 @@ fn last_faults(faults: &mut Faults, parts: &Parts) -> Result<(), NoMemory>
 fn settings_faults(faults: &mut Faults, parts: &Parts) -> Result<(), NoMemory>
     ensures { OnOk result (faults.new ≡ faults.old ++ settings_faults parts.now.scenario.now) }
 {
+    let alloc = parts.alloc;
     let pool = parts.scenario.settings.pool;
     let passed = 1 <= pool && pool <= MOST_CONNECTIONS;
-    check_place(
-        parts.alloc,
-        faults,
-        "settings.pool",
-        passed,
-        Stage::OutOfRange,
-    )
+    check_place(alloc, faults, "settings.pool", passed, Stage::OutOfRange)
 }
 
 fn rows_faults(faults: &mut Faults, parts: &Parts) -> Result<(), NoMemory>
     ensures { OnOk result (faults.new ≡ faults.old ++ rows_faults parts.now.scenario.now) }
 {
     let names = first_rows(parts.scenario);
-    check_count(
-        parts.alloc,
-        faults,
-        "rows",
-        MOST_ROWS,
-        parts.scenario.values.len(),
-    )?;
+    let count = parts.scenario.values.len();
+    check_count(parts.alloc, faults, "rows", MOST_ROWS, count)?;
     check_each(faults, parts, names)
 }
 
 fn clients_faults(faults: &mut Faults, parts: &Parts) -> Result<(), NoMemory>
     ensures { OnOk result (faults.new ≡ faults.old ++ clients_faults parts.now.scenario.now) }
 {
+    let alloc = parts.alloc;
     let count = parts.scenario.clients.len();
-    check_place(
-        parts.alloc,
-        faults,
-        "clients",
-        1 <= count,
-        Stage::OutOfRange,
-    )?;
-    check_count(parts.alloc, faults, "clients", MOST_CLIENTS, count)?;
+    let passed = 1 <= count;
+    check_place(alloc, faults, "clients", passed, Stage::OutOfRange)?;
+    check_count(alloc, faults, "clients", MOST_CLIENTS, count)?;
     check_each(faults, parts, parts.scenario.clients.as_slice())
 }
 

@@ -8,6 +8,7 @@ use std::alloc::Global;
 use stx_refusals::{Fault, check_count};
 use stx_scenario::{List, NoMemory};
 
+/// The places that are refused so far.
 pub type Faults = List<Fault>;
 
 /// What tells the faults of an entry of a list.

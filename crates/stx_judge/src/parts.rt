@@ -5,7 +5,7 @@ ghost use Rattle.stx_judge.specs.Judge.{name_faults, turn_faults, class_faults, 
 
 use crate::checks::{Checks, Faults, check_array};
 use crate::references::parent_known;
-use crate::tables::At;
+use crate::tables::Place;
 use std::alloc::Global;
 use stx_names::{is_class_name, is_name};
 use stx_refusals::{Stage, entry, refuse, under};
@@ -26,11 +26,11 @@ pub struct Parts<'a> {
 
 impl<'a> Parts<'a> {
     /// The table or the array at a path.
-    pub fn at<'b>(&self, path: &'b str) -> At<'a, 'b>
+    pub fn place<'b>(&self, path: &'b str) -> Place<'a, 'b>
         ensures scenario { result.scenario.now ≡ self.now.scenario.now }
         ensures path { result.path.now ≡ path.now }
     {
-        At {
+        Place {
             alloc: self.alloc,
             scenario: self.scenario,
             path,
@@ -47,11 +47,8 @@ impl<'a> Checks<Name> for Parts<'a> {
             return Ok(());
         }
         let path = entry(self.alloc, "rows", at)?;
-        refuse(
-            faults,
-            Stage::BadName,
-            under(self.alloc, path.as_str(), "name")?,
-        )
+        let path = under(self.alloc, path.as_str(), "name")?;
+        refuse(faults, Stage::BadName, path)
     }
 }
 
@@ -60,7 +57,7 @@ impl<'a> Checks<u32> for Parts<'a> {
     ghost finds = { λ parts. turn_faults parts.scenario.now };
 
     fn check(&self, faults: &mut Faults, at: usize, client: &u32) -> Result<(), NoMemory> {
-        let schedule = self.at("schedule");
+        let schedule = self.place("schedule");
         let passed = *client < MOST_CLIENTS;
         schedule.check_entry(faults, at, passed, Stage::OutOfRange)?;
         let passed = (*client as usize) < self.scenario.clients.len();
@@ -73,7 +70,7 @@ impl<'a> Checks<ClassDecl> for Parts<'a> {
 
     fn check(&self, faults: &mut Faults, at: usize, class: &ClassDecl) -> Result<(), NoMemory> {
         let path = entry(self.alloc, "classes", at)?;
-        let table = self.at(path.as_str());
+        let table = self.place(path.as_str());
         let passed = is_class_name(class.name.as_str());
         table.check_key(faults, "name", passed, Stage::BadName)?;
         let passed = parent_known(self.scenario, class.parent);
@@ -86,7 +83,7 @@ impl<'a> Checks<Bean> for Parts<'a> {
 
     fn check(&self, faults: &mut Faults, at: usize, bean: &Bean) -> Result<(), NoMemory> {
         let path = entry(self.alloc, "beans", at)?;
-        let table = self.at(path.as_str());
+        let table = self.place(path.as_str());
         table.check_name(faults, &bean.name)?;
         table.check_tx(faults, &bean.tx)
     }
@@ -97,7 +94,7 @@ impl<'a> Checks<Method> for Parts<'a> {
 
     fn check(&self, faults: &mut Faults, at: usize, method: &Method) -> Result<(), NoMemory> {
         let path = entry(self.alloc, "methods", at)?;
-        let table = self.at(path.as_str());
+        let table = self.place(path.as_str());
         let passed = (method.bean.0 as usize) < self.scenario.beans.len();
         table.check_key(faults, "bean", passed, Stage::UnknownRef)?;
         table.check_name(faults, &method.name)?;
@@ -111,7 +108,7 @@ impl<'a> Checks<SyncDecl> for Parts<'a> {
 
     fn check(&self, faults: &mut Faults, at: usize, sync: &SyncDecl) -> Result<(), NoMemory> {
         let path = entry(self.alloc, "syncs", at)?;
-        let table = self.at(path.as_str());
+        let table = self.place(path.as_str());
         table.check_name(faults, &sync.name)?;
         table.check_callback(faults, "before_commit", &sync.before_commit)?;
         table.check_callback(faults, "before_completion", &sync.before_completion)?;
@@ -126,7 +123,7 @@ impl<'a> Checks<Listener> for Parts<'a> {
 
     fn check(&self, faults: &mut Faults, at: usize, listener: &Listener) -> Result<(), NoMemory> {
         let path = entry(self.alloc, "listeners", at)?;
-        let table = self.at(path.as_str());
+        let table = self.place(path.as_str());
         table.check_name(faults, &listener.name)?;
         let passed = (listener.event.0 as usize) < self.scenario.events.len();
         table.check_key(faults, "event", passed, Stage::UnknownRef)?;
@@ -140,14 +137,15 @@ impl<'a> Checks<Calls> for Parts<'a> {
     fn check(&self, faults: &mut Faults, at: usize, calls: &Calls) -> Result<(), NoMemory> {
         let path = entry(self.alloc, "clients", at)?;
         let path = under(self.alloc, path.as_str(), "calls")?;
-        let array = self.at(path.as_str());
+        let path = path.as_str();
+        let calls = calls.as_slice();
         check_array(
             self.alloc,
             faults,
-            array.path,
+            path,
             MOST_CALLS,
-            &array,
-            calls.as_slice(),
+            &self.place(path),
+            calls,
         )
     }
 }

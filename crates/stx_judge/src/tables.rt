@@ -19,9 +19,9 @@ const MOST_STATEMENTS: usize = 256;
 /// The most rules of an attribute.
 const MOST_RULES: usize = 64;
 
-/// The table or the array at a path of a scenario.
+/// A table or an array of a scenario, by its path, and where paths take their memory.
 #[derive(Drop)]
-pub struct At<'a, 'b> {
+pub struct Place<'a, 'b> {
     pub alloc: Global,
     pub scenario: &'a Scenario,
     pub path: &'b str,
@@ -30,11 +30,11 @@ pub struct At<'a, 'b> {
 /// The body at a path, of a method of a bean.
 #[derive(Drop)]
 struct MethodBody<'a, 'b> {
-    at: At<'a, 'b>,
+    place: Place<'a, 'b>,
     bean: BeanNo,
 }
 
-impl<'a, 'b> At<'a, 'b> {
+impl<'a, 'b> Place<'a, 'b> {
     /// Refuses the value under a key of the table, unless it passed.
     pub fn check_key(
         &self,
@@ -62,11 +62,11 @@ impl<'a, 'b> At<'a, 'b> {
     }
 
     /// Another table or array of the scenario.
-    fn to<'c>(&self, path: &'c str) -> At<'a, 'c>
+    fn place<'c>(&self, path: &'c str) -> Place<'a, 'c>
         ensures scenario { result.scenario.now ≡ self.now.scenario.now }
         ensures path { result.path.now ≡ path.now }
     {
-        At {
+        Place {
             alloc: self.alloc,
             scenario: self.scenario,
             path,
@@ -93,7 +93,14 @@ impl<'a, 'b> At<'a, 'b> {
         let path = under(self.alloc, path.as_str(), "rules")?;
         let path = path.as_str();
         let rules = tx.rules.as_slice();
-        check_array(self.alloc, faults, path, MOST_RULES, &self.to(path), rules)
+        check_array(
+            self.alloc,
+            faults,
+            path,
+            MOST_RULES,
+            &self.place(path),
+            rules,
+        )
     }
 
     /// The body of a method of a bean.
@@ -107,8 +114,8 @@ impl<'a, 'b> At<'a, 'b> {
     {
         let path = under(self.alloc, self.path, "body")?;
         let path = path.as_str();
-        let at = self.to(path);
-        let statements = MethodBody { at, bean };
+        let place = self.place(path);
+        let statements = MethodBody { place, bean };
         let body = body.as_slice();
         check_array(self.alloc, faults, path, MOST_STATEMENTS, &statements, body)
     }
@@ -124,14 +131,14 @@ impl<'a, 'b> At<'a, 'b> {
     {
         let path = under(self.alloc, self.path, key)?;
         let path = path.as_str();
-        let statements = self.to(path);
+        let statements = self.place(path);
         let body = body.as_slice();
         check_array(self.alloc, faults, path, MOST_STATEMENTS, &statements, body)
     }
 }
 
 // The names of the events.
-impl<'a, 'b> Checks<Name> for At<'a, 'b> {
+impl<'a, 'b> Checks<Name> for Place<'a, 'b> {
     ghost finds = { λ array n name. refused (path_of_entry array.path.now n) (unless (is_a_name name) Kind.BadName) };
 
     fn check(&self, faults: &mut Faults, at: usize, name: &Name) -> Result<(), NoMemory> {
@@ -140,7 +147,7 @@ impl<'a, 'b> Checks<Name> for At<'a, 'b> {
     }
 }
 
-impl<'a, 'b> Checks<Rule> for At<'a, 'b> {
+impl<'a, 'b> Checks<Rule> for Place<'a, 'b> {
     ghost finds = { λ array n rule. refused (path_of_entry array.path.now n) (rule_stage array.scenario.now rule.by) };
 
     fn check(&self, faults: &mut Faults, at: usize, rule: &Rule) -> Result<(), NoMemory> {
@@ -158,7 +165,7 @@ impl<'a, 'b> Checks<Rule> for At<'a, 'b> {
 }
 
 // The calls of a client.
-impl<'a, 'b> Checks<MethodNo> for At<'a, 'b> {
+impl<'a, 'b> Checks<MethodNo> for Place<'a, 'b> {
     ghost finds = { λ array n m. refused (path_of_entry array.path.now n) (unless (is_a_method array.scenario.now m) Kind.UnknownRef) };
 
     fn check(&self, faults: &mut Faults, at: usize, method: &MethodNo) -> Result<(), NoMemory> {
@@ -168,7 +175,7 @@ impl<'a, 'b> Checks<MethodNo> for At<'a, 'b> {
 }
 
 // The statements of a callback.
-impl<'a, 'b> Checks<Stmt> for At<'a, 'b> {
+impl<'a, 'b> Checks<Stmt> for Place<'a, 'b> {
     ghost finds = { λ array n s. refused (path_of_entry array.path.now n) (unless (names_known array.scenario.now s) Kind.UnknownRef) };
 
     fn check(&self, faults: &mut Faults, at: usize, statement: &Stmt) -> Result<(), NoMemory> {
@@ -178,11 +185,12 @@ impl<'a, 'b> Checks<Stmt> for At<'a, 'b> {
 }
 
 impl<'a, 'b> Checks<Stmt> for MethodBody<'a, 'b> {
-    ghost finds = { λ body n s. refused (path_of_entry body.at.path.now n) (unless (names_known body.at.scenario.now s && own_known body.at.scenario.now body.bean s) Kind.UnknownRef) };
+    ghost finds = { λ body n s. refused (path_of_entry body.place.path.now n) (unless (names_known body.place.scenario.now s && own_known body.place.scenario.now body.bean s) Kind.UnknownRef) };
 
     fn check(&self, faults: &mut Faults, at: usize, statement: &Stmt) -> Result<(), NoMemory> {
-        let passed = is_known_in(self.at.scenario, self.bean, *statement);
-        self.at.check_entry(faults, at, passed, Stage::UnknownRef)
+        let passed = is_known_in(self.place.scenario, self.bean, *statement);
+        self.place
+            .check_entry(faults, at, passed, Stage::UnknownRef)
     }
 }
 
