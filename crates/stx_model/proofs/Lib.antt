@@ -39,6 +39,7 @@ pub mod Rounding
 pub mod ScopeCosts
 pub mod ScriptCosts
 pub mod ReadsLaw
+pub mod Pausing
 pub mod Steady
 pub mod SteadyPieces
 pub mod NotesLaw
