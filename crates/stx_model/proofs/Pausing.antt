@@ -1,6 +1,6 @@
 -- How many lines suspensions and resumptions say: no more than were registered, twice for each call, in all that a script
 -- does. What is registered has its line, and where a context comes back, no more is registered in it than had one then.
-use Rattle.std.proofs.Common.{◌≡◌, ℕ, zero, suc, ◌+◌, ◌≤◌, ◌==◌, Bool, true, false, ℤ, ◌+ℤ◌, List, [], ◌∷◌, ◌++◌, map, Option, Some, None, refl, sym, ap, ◌∙◌, subst, arith}
+use Rattle.std.proofs.Common.{◌≡◌, ℕ, zero, suc, ◌+◌, ◌≤◌, ◌==◌, Bool, true, false, ℤ, ◌+ℤ◌, List, [], ◌∷◌, map, Option, Some, None, refl, ap, arith}
 use Rattle.std.specs.Prelude.{int_lt, slice_get}
 use Rattle.std.specs.List.{sum_by}
 use Rattle.std.proofs.lemmas.List.Sums.{sum_by-cons, sum_by_push}
@@ -28,17 +28,15 @@ use Rattle.stx_base.specs.declared.manager.Round.{Round}
 use Rattle.stx_base.specs.Attributes.{attribute}
 use Rattle.stx_base.specs.Notes.{is_answer, note_line}
 use Rattle.stx_base.specs.Weight.{body_of, rank}
-use Rattle.stx_model.specs.Contexts.{Context, Live, Registration, bare, is_active, is_live, registered, ordered, ordered_labels, with_global_mark, with_registration, without_syncs}
+use Rattle.stx_model.specs.Contexts.{Context, Live, Registration, bare, is_active, is_live, registered, ordered, ordered_labels, with_global_mark, without_syncs}
 use Rattle.stx_model.specs.Ending.{Action, RoundBeforeCompletion, RoundAfterCommit, RoundAfterCompletion, CommitStore, RollbackStore, BackToPoint, ReleasePoint, MarkGlobally, ThrowUnexpected, GiveBack, Resumption, completion, completion_after, has_before_commit, ending}
 use Rattle.stx_model.specs.Listeners.{Deed, Register, RunNow, Skip, deeds, runs_in}
 use Rattle.stx_model.specs.Meanings.{State, Result, Over, Stops, Breaks, Meaning, at_first, state_of, and_then, finally, say, with_context, with_local, unread, hear, answered, ask, on_take, on_begin, on_access}
 use Rattle.stx_model.specs.Opening.{opening}
-use Rattle.stx_model.specs.Orders.{by_order}
 use Rattle.stx_model.specs.Statements.{RowAccess, throws, concludes, catches, caught, unless_busy, access_row, nothing_more, value_of, is_value, needed, added, on_row, in_transaction, on_connection, connected, row_statement, marks, registers, register_listener}
 use Rattle.stx_model.specs.Rounds.{Calls, Way, Proxied, Direct, sync_body, callback_line, swallows, callback_statement, callback, listens, listens_in, called_back, told, stopping_round, swallowing_round, round_of, last_round}
 use Rattle.stx_model.specs.Scopes.{Scope, leaves, live_in, later_or, rolls, ruled, is_set, say_each, say_bind, say_unbind, suspend, resume, resumed, suspended, older_if, started_syncs, fresh_context, acts, completes, ends, in_scope, within, begins, empty, opens, intercepted}
-use Rattle.stx_model.specs.Script.{deals, publishes, statement, body, unscoped, proxied, invoked, calls_below, invoke, tops, calls_of, script}
-use Rattle.stx_model.proofs.Apart.{resume_gives}
+use Rattle.stx_model.specs.Script.{deals, statement, body, unscoped, proxied, invoked, calls_below, invoke, tops, calls_of, script}
 use Rattle.stx_model.proofs.Spending.{price}
 use Rattle.stx_model.proofs.Sharing.{by_order_sum}
 
@@ -399,7 +397,6 @@ module _ (R : ℕ) where
   suspended_follows false st counted = slackens 0 R st st (omega arith) (stays st counted)
   suspended_follows true st counted =
       let each = each_follows Line.Suspend (λ l. refl) (registered st.context.syncs) st counted counted in
-      let told : State = say_each Line.Suspend (ordered_labels st.context.syncs) st in
       let unbound = follow R 0 R st (say_each Line.Suspend (ordered_labels st.context.syncs) st) (say_unbind st.context.tx (say_each Line.Suspend (ordered_labels st.context.syncs) st)) (omega arith) each
       (unbind_follows st.context.tx (say_each Line.Suspend (ordered_labels st.context.syncs) st) each.counted) in
       follow R 0 R st (say_unbind st.context.tx (say_each Line.Suspend (ordered_labels st.context.syncs) st)) (suspend st) (omega arith) unbound
@@ -417,10 +414,6 @@ module _ (R : ℕ) where
   ruled_follows : (S : Scenario) (a : TxAttr) (x : Option ClassNo) (st : State) → IsCounted st → Follows 0 st (ruled S a.rules x st)
   ruled_follows S a (Some x) st counted = says _ st refl counted
   ruled_follows S a None st counted = stays st counted
-
-  -- the local mark is no matter
-  in_local : (n : ℕ) (b : Option Bool) (st : State) (r : Result) → Follows n (with_local b st) (state_of r) → Follows n st (state_of r)
-  in_local n b st r follows = record { grows = follows.grows; counted = follows.counted; paid = follows.paid }
 
   live_follows : (n : ℕ) (tx : Option Live) (next : Live → Meaning) (st : State) → IsCounted st → ((live : Live) → Follows n st (state_of (next live st))) → Follows n st (state_of (live_in tx next st))
   live_follows n (Some live) next st counted then = then live
@@ -523,7 +516,6 @@ module _ (R : ℕ) where
       ends_pace : (a : TxAttr) (x : Option ClassNo) (st : State) → IsCounted st → held scope.older ≤ registered_by st → Follows R st (state_of (ends S calls scope a x st))
       unfolding ends
       ends_pace a x st counted older =
-          let e : Ending = ending scope.kind (rolls S a.rules x) (is_set st.local) st.context in
           let told = ruled_follows S a x st counted in
           let said = says (Line.End (ending scope.kind (rolls S a.rules x) (is_set st.local) st.context)) (ruled S a.rules x st) refl told.counted in
           let both = follow 0 0 0 st (ruled S a.rules x st) (say (Line.End (ending scope.kind (rolls S a.rules x) (is_set st.local) st.context)) (ruled S a.rules x st)) (omega arith) told said in
@@ -598,7 +590,6 @@ module _ (R : ℕ) where
           (λ live. ask_follows R (Want.Point live.transaction) (λ _. within S calls m Kind.Point a run) st counted (λ n heard still grows. plain_pace Kind.Point false heard.local heard still)))
       opens_pace (Opening.Empty suspends owns) st counted =
           let apart = suspended_follows suspends st counted in
-          let context : Context = record { tx = (suspended suspends st).context.tx; syncs = started_syncs owns (suspended suspends st).context.syncs } in
           let started = in_context (record { tx = (suspended suspends st).context.tx; syncs = started_syncs owns (suspended suspends st).context.syncs }) (suspended suspends st)
           (omega (arith, apart.counted, started_counts owns (suspended suspends st).context.tx (suspended suspends st).context.syncs)) in
           follow R R (R + R) st (suspended suspends st) (state_of (empty S calls m a run owns (older_if suspends st.context) (suspended suspends st))) (omega arith) apart

@@ -1,7 +1,7 @@
 -- How many lines the scripts of all clients say together: at most sixteen for each unit of weight.
 use Rattle.std.proofs.Common.{◌≡◌, ℕ, zero, suc, ◌+◌, ◌*◌, ◌<◌, ◌≤◌, List, [], ◌∷◌, length, map, Option, Some, None, refl, sym, ap, ◌∙◌, subst, arith}
 use Rattle.std.specs.Prelude.{slice_get, unwrap_or}
-use Rattle.std.specs.List.{All, sum_by}
+use Rattle.std.specs.List.{sum_by}
 use Rattle.std.proofs.Math.Nat.{add-mul, mul-add, mul-le-mul_left, mul_comm}
 use Rattle.std.proofs.lemmas.List.Elements.{All-head}
 use Rattle.std.proofs.lemmas.List.Sums.{sum_by-cons, sum_by_push, sum-map}
@@ -20,7 +20,7 @@ use Rattle.stx_model.specs.Laws.{SaysWithin}
 use Rattle.stx_model.specs.Meanings.{State, at_first, state_of, hear}
 use Rattle.stx_model.specs.Script.{script, tops, calls_of}
 use Rattle.stx_model.proofs.Spending.{Measure, price}
-use Rattle.stx_model.proofs.ScriptCosts.{IsCosted, script_costs}
+use Rattle.stx_model.proofs.ScriptCosts.{script_costs}
 use Rattle.stx_model.proofs.ReadsLaw.{costed, sum_below_within, sum_below_items}
 use Rattle.stx_model.proofs.Pausing.{pausing, registering, calling, script_pauses}
 

@@ -196,7 +196,6 @@ module _ (M : Measure) (S : Scenario) (calls : Calls) (of : MethodNo → Cost) (
   unexpected : (p : Owed) (n : ℕ) (rest : List Action) → Acts p n rest → Acts p (M.line + n) (ThrowUnexpected ∷ rest)
   unfolding acts
   unexpected p n rest spends x st =
-      let throw : Line = Line.Throw UNEXPECTED_ROLLBACK_EXCEPTION in
       spends_within M nobody (M.spent (say (Line.Throw UNEXPECTED_ROLLBACK_EXCEPTION) st)) (M.spent st) (owes p st.context + n) (owes p st.context + (M.line + n))
       (acts S calls scope rest (Some UNEXPECTED_ROLLBACK_EXCEPTION) (say (Line.Throw UNEXPECTED_ROLLBACK_EXCEPTION) st))
       (omega (arith, M.said (Line.Throw UNEXPECTED_ROLLBACK_EXCEPTION) st)) (spends _ (say (Line.Throw UNEXPECTED_ROLLBACK_EXCEPTION) st))

@@ -103,7 +103,6 @@ module _ (M : Measure) (S : Scenario) (calls : Calls) (of : MethodNo → Cost) (
             | false ↦ elim fallback [ true ↦ RunNow (record { 0 = l.0 }) | false ↦ Skip (record { 0 = l.0 }) ]
           ] ∷ map (deed all) later) st)
       by rest true fallback =
-          let r : Registration = record { label = Label.Listener (record { 0 = l.0 }); order = order_of_listener (slice_get S.listeners l.0) } in
           done (register_listener S (record { 0 = l.0 }) st)
           (registers_costs M o (record { label = Label.Listener (record { 0 = l.0 }); order = order_of_listener (slice_get S.listeners l.0) }) (M.weigh one_registered + listener_size M S of (slice_get S.listeners l.0))
           (omega (arith, M.pays_registration, owed (record { label = Label.Listener (record { 0 = l.0 }); order = order_of_listener (slice_get S.listeners l.0) }))) (omega (arith, M.pays_registration)) st.context.syncs st refl) rest
