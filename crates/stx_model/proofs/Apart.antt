@@ -85,7 +85,7 @@ say_each_keeps line (l ∷ ls) st = say_each_keeps line ls (say (line l) st)
 abbrev pub Apart : Context → Option Bool → Option ClassNo → State → Type 0
 Apart older outer x after = (after.context ≡ older) × (after.local ≡ outer)
 
-bind_keeps : (older : Context) (tx : Option Live) (st : State) → (say_bind tx (with_context older st)).context ≡ older
+pub bind_keeps : (older : Context) (tx : Option Live) (st : State) → (say_bind tx (with_context older st)).context ≡ older
 bind_keeps older (Some live) st = refl
 bind_keeps older None st = refl
 
@@ -93,7 +93,7 @@ bind_local : (tx : Option Live) (st : State) → (say_bind tx st).local ≡ st.l
 bind_local (Some live) st = refl
 bind_local None st = refl
 
-resume_gives : (older : Context) (st : State) → (resume older st).context ≡ older
+pub resume_gives : (older : Context) (st : State) → (resume older st).context ≡ older
 resume_gives older st = (say_each_keeps Line.Resume (ordered_labels older.syncs) (say_bind older.tx (with_context older st))).0 ∙ bind_keeps older older.tx st
 
 -- ---- a scope with an older context gives it back

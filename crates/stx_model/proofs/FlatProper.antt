@@ -42,7 +42,7 @@ use Rattle.stx_model.specs.Built.{IsBuilt}
 use Rattle.stx_model.proofs.FlatForm.{statement_in, body, let_go, gives_back, ending_call, completes, ending_after, ends, opened, begins, fresh, intercepted, invoke, tops, flat_script}
 use Rattle.stx_model.proofs.FlatTransfer.{script_is_flat}
 use Rattle.stx_model.proofs.ProperNotes.{Stands, stands_none, stands_begin, stands_access, stands_commit, stands_rollback, fresh_begin, none_live}
-use Rattle.stx_model.proofs.ReadsLaw.{script_reads, costed_built}
+use Rattle.stx_model.proofs.ReadsLaw.{script_reads_built}
 
 -- ---- what holds between two lines
 
@@ -485,7 +485,7 @@ few_notes : (S : Scenario) → IsBuilt S → weight S ≤ 200000 → (c : ℕ) (
     → script S c pool store ≡ Stops want end → end.pool ≡ [] → end.store ≡ [] → length pool + length store ≤ 1600000
 few_notes S built light c pool store want end is no_pool no_store =
     let of : List MethodNo → ℕ = client_weight (cost S) in
-    let reads : notes_read S c pool store ≤ 8 * of (calls_of S c) = script_reads S (costed_built S built) c pool store in
+    let reads : notes_read S c pool store ≤ 8 * of (calls_of S c) = script_reads_built S built c pool store in
     let read : notes_read S c pool store ≡ length pool + length store - (length end.pool + length end.store) = ap (λ r. length pool + length store - count_unread (state_of r)) is in
     let own : of (calls_of S c) ≤ sum_by of S.clients = item_within of [] S.clients c refl in
     let all : weight S ≡ sum_by of S.clients = sum-map of S.clients in

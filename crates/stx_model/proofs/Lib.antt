@@ -39,6 +39,8 @@ pub mod Rounding
 pub mod ScopeCosts
 pub mod ScriptCosts
 pub mod ReadsLaw
+pub mod Pausing
+pub mod SaysLaw
 pub mod Steady
 pub mod SteadyPieces
 pub mod NotesLaw

@@ -1,95 +1,91 @@
--- What callbacks and rounds read: each round takes its share of what the registrations owe.
-use Rattle.std.proofs.Common.{◌≡◌, ℕ, zero, suc, ◌+◌, ◌*◌, ◌≤◌, Bool, true, false, ℤ, ◌+ℤ◌, List, [], ◌∷◌, ◌++◌, length, map, Option, Some, None, refl, sym, ap, ◌∙◌, subst, arith}
-use Rattle.std.specs.Prelude.{int_lt, slice_get}
+-- What statements on rows spend, and sums over registrations in any order.
+use Rattle.std.proofs.Common.{◌≡◌, ℕ, ◌+◌, ◌*◌, ◌≤◌, Bool, true, false, ℤ, ◌+ℤ◌, List, [], ◌∷◌, Option, Some, None, arith}
+use Rattle.std.specs.Prelude.{int_lt}
 use Rattle.std.specs.List.{sum_by, fold}
 use Rattle.std.proofs.lemmas.List.Sums.{sum_by-cons}
 use Rattle.stx_scenario.specs.declared.numbers.ClassNo.{ClassNo}
-use Rattle.stx_scenario.specs.declared.numbers.MethodNo.{MethodNo}
 use Rattle.stx_scenario.specs.declared.numbers.RowNo.{RowNo}
-use Rattle.stx_scenario.specs.declared.numbers.SyncNo.{SyncNo}
-use Rattle.stx_scenario.specs.declared.numbers.ListenerNo.{ListenerNo}
 use Rattle.stx_scenario.specs.declared.classes.TheConstants.{ILLEGAL_STATE_EXCEPTION, ARITHMETIC_EXCEPTION, CANNOT_ACQUIRE_LOCK_EXCEPTION, CANNOT_GET_JDBC_CONNECTION_EXCEPTION}
 use Rattle.stx_scenario.specs.declared.scenario.Scenario.{Scenario}
-use Rattle.stx_scenario.specs.declared.scenario.Listener.{Listener}
-use Rattle.stx_scenario.specs.declared.scenario.Phase.{Phase}
-use Rattle.stx_scenario.specs.declared.scenario.SyncDecl.{SyncDecl}
 use Rattle.stx_scenario.specs.declared.scenario.Stmt.{Stmt}
 use Rattle.stx_base.specs.declared.call.Want.{Want}
-use Rattle.stx_base.specs.declared.cost.Cost.{Cost}
 use Rattle.stx_base.specs.declared.history.Access.{Access}
 use Rattle.stx_base.specs.declared.history.Answer.{Answer}
 use Rattle.stx_base.specs.declared.line.Line.{Line}
-use Rattle.stx_base.specs.declared.line.Label.{Label}
-use Rattle.stx_base.specs.declared.manager.Round.{Round}
-use Rattle.stx_base.specs.Weight.{plus, total, callback_cost, callbacks_cost, callbacks_of}
-use Rattle.stx_model.specs.Contexts.{Context, Live, Registration, registered, ordered, without_syncs}
-use Rattle.stx_model.specs.Listeners.{runs_in}
-use Rattle.stx_model.specs.Meanings.{State, Result, Over, Stops, Breaks, Meaning, and_then, finally, say, with_context, ask, on_take, on_access}
+use Rattle.stx_model.specs.Contexts.{Live}
+use Rattle.stx_model.specs.Meanings.{Over, Meaning, say, on_take, on_access}
 use Rattle.stx_model.specs.Orders.{inserted, by_order}
-use Rattle.stx_model.specs.Reads.{count_unread}
 use Rattle.stx_model.specs.Statements.{RowAccess, throws, concludes, catches, caught, unless_busy, access_row, nothing_more, value_of, is_value, needed, added, on_row, in_transaction, on_connection, connected, row_statement}
-use Rattle.stx_model.specs.Rounds.{Calls, Way, Proxied, sync_body, callback_line, swallows, callback_statement, callback, listens, listens_in, called_back, told, stopping_round, swallowing_round, round_of, last_round}
-use Rattle.stx_model.proofs.Spending.{Owed, owes, Spends, Costs, costs_more, finally_spends, and_then_spends, either_spends, ask_costs, take_costs, access_costs, nothing_read, broken}
+use Rattle.stx_model.proofs.Spending.{Measure, Owed, owes, Costs, costs_more, either_spends, ask_costs, take_costs, access_costs, nothing_spent, said_last, broken}
 
 -- ---- statements on rows
 
-throws_costs : (o : Owed) (n : ℕ) (x : ClassNo) → Costs o n (throws x)
-throws_costs o n x st = nothing_read o n (Some x) (say (Line.Throw x) st)
+module _ (M : Measure) where
+  throws_costs : (o : Owed) (n : ℕ) (x : ClassNo) → M.line ≤ n → Costs M o n (throws x)
+  throws_costs o n x le st = said_last M o (Line.Throw x) n (Some x) st le
 
-concludes_costs : (o : Owed) (n : ℕ) (x : Option ClassNo) → Costs o n (concludes x)
-concludes_costs o n None st = nothing_read o n None st
-concludes_costs o n (Some x) st = throws_costs o n x st
+  concludes_costs : (o : Owed) (n : ℕ) (x : Option ClassNo) → M.line ≤ n → Costs M o n (concludes x)
+  concludes_costs o n None le st = nothing_spent M o n None st
+  concludes_costs o n (Some x) le st = throws_costs o n x le st
 
-pub caught_costs : (S : Scenario) (o : Owed) (catch x : Option ClassNo) → Costs o 0 (caught S catch x)
-caught_costs S o catch None st = nothing_read o 0 None st
-caught_costs S o catch (Some x) st =
-    either_spends o (count_unread st) (owes o st.context + 0) (catches S catch x) (Over None (say (Line.Catch x) st)) (Over (Some x) st)
-    (nothing_read o 0 None (say (Line.Catch x) st)) (nothing_read o 0 (Some x) st)
+  pub caught_costs : (S : Scenario) (o : Owed) (catch x : Option ClassNo) → Costs M o M.line (caught S catch x)
+  caught_costs S o catch None st = nothing_spent M o M.line None st
+  caught_costs S o catch (Some x) st =
+      either_spends M o (M.spent st) (owes o st.context + M.line) (catches S catch x) (Over None (say (Line.Catch x) st)) (Over (Some x) st)
+      (said_last M o (Line.Catch x) M.line None st (omega arith)) (nothing_spent M o M.line (Some x) st)
 
--- a statement whose end reads at most one note
-module _ (o : Owed) (at : RowAccess) (ends : (x : Option ClassNo) → Costs o 1 (at.ends x)) where
-  unless_busy_costs : (k : ℕ) (next : Answer → Meaning) → ((r : Answer) → Costs o (1 + k) (next r)) → (r : Answer) → Costs o (1 + k) (unless_busy at next r)
-  unless_busy_costs k next costs (Answer.Busy t) = costs_more o 1 (1 + k) (at.ends (Some CANNOT_ACQUIRE_LOCK_EXCEPTION)) (omega arith) (ends (Some CANNOT_ACQUIRE_LOCK_EXCEPTION))
-  unless_busy_costs k next costs (Answer.Found v) = costs (Answer.Found v)
-  unless_busy_costs k next costs Answer.Absent = costs Answer.Absent
-  unless_busy_costs k next costs Answer.Done = costs Answer.Done
+  -- a statement whose end spends at most so much
+  module _ (o : Owed) (at : RowAccess) (e : ℕ) (ends : (x : Option ClassNo) → Costs M o e (at.ends x)) where
+    unless_busy_costs : (k : ℕ) (next : Answer → Meaning) → ((r : Answer) → Costs M o (e + k) (next r)) → (r : Answer) → Costs M o (e + k) (unless_busy at next r)
+    unless_busy_costs k next costs (Answer.Busy t) = costs_more M o e (e + k) (at.ends (Some CANNOT_ACQUIRE_LOCK_EXCEPTION)) (omega arith) (ends (Some CANNOT_ACQUIRE_LOCK_EXCEPTION))
+    unless_busy_costs k next costs (Answer.Found v) = costs (Answer.Found v)
+    unless_busy_costs k next costs Answer.Absent = costs Answer.Absent
+    unless_busy_costs k next costs Answer.Done = costs Answer.Done
 
-  access_row_costs : (k : ℕ) (a : Access) (next : Answer → Meaning) → ((r : Answer) → Costs o (1 + k) (next r)) → Costs o (1 + (1 + k)) (access_row at a next)
-  access_row_costs k a next costs =
-      ask_costs o (at.want a) (on_access (unless_busy at next)) (1 + k) (access_costs o (1 + k) (unless_busy at next) (unless_busy_costs k next costs))
+    access_row_costs : (k : ℕ) (a : Access) (next : Answer → Meaning) → ((r : Answer) → Costs M o (e + k) (next r)) → Costs M o (M.note + (e + k)) (access_row at a next)
+    access_row_costs k a next costs =
+        ask_costs M o (at.want a) (on_access (unless_busy at next)) (e + k) (access_costs M o (e + k) (unless_busy at next) (unless_busy_costs k next costs))
 
-  nothing_more_costs : (r : Answer) → Costs o 1 (nothing_more at r)
-  nothing_more_costs r = ends None
+    nothing_more_costs : (r : Answer) → Costs M o (e + 0) (nothing_more at r)
+    nothing_more_costs r = costs_more M o e (e + 0) (at.ends None) (omega arith) (ends None)
 
-  needed_costs : (n : ℤ) (r : Answer) → Costs o 1 (needed at n r)
-  needed_costs n r st =
-      either_spends o (count_unread st) (owes o st.context + 1) (int_lt (value_of r) n) (at.ends (Some ILLEGAL_STATE_EXCEPTION) st) (at.ends None st) (ends (Some ILLEGAL_STATE_EXCEPTION) st) (ends None st)
+    needed_costs : (n : ℤ) (r : Answer) → Costs M o (e + 0) (needed at n r)
+    needed_costs n r st =
+        either_spends M o (M.spent st) (owes o st.context + (e + 0)) (int_lt (value_of r) n) (at.ends (Some ILLEGAL_STATE_EXCEPTION) st) (at.ends None st)
+        (costs_more M o e (e + 0) (at.ends (Some ILLEGAL_STATE_EXCEPTION)) (omega arith) (ends (Some ILLEGAL_STATE_EXCEPTION)) st) (nothing_more_costs r st)
 
-  added_costs : (k : RowNo) (n : ℤ) (r : Answer) → Costs o 2 (added at k n r)
-  added_costs k n r st =
-      either_spends o (count_unread st) (owes o st.context + 2) (is_value (value_of r +ℤ n)) (access_row at (Access.Write k (value_of r +ℤ n)) (nothing_more at) st) (at.ends (Some ARITHMETIC_EXCEPTION) st)
-      (access_row_costs 0 (Access.Write k (value_of r +ℤ n)) (nothing_more at) nothing_more_costs st)
-      (costs_more o 1 2 (at.ends (Some ARITHMETIC_EXCEPTION)) (omega arith) (ends (Some ARITHMETIC_EXCEPTION)) st)
+    added_costs : (k : RowNo) (n : ℤ) (r : Answer) → Costs M o (e + M.note) (added at k n r)
+    added_costs k n r st =
+        either_spends M o (M.spent st) (owes o st.context + (e + M.note)) (is_value (value_of r +ℤ n)) (access_row at (Access.Write k (value_of r +ℤ n)) (nothing_more at) st) (at.ends (Some ARITHMETIC_EXCEPTION) st)
+        (costs_more M o (M.note + (e + 0)) (e + M.note) (access_row at (Access.Write k (value_of r +ℤ n)) (nothing_more at)) (omega arith)
+        (access_row_costs 0 (Access.Write k (value_of r +ℤ n)) (nothing_more at) nothing_more_costs) st)
+        (costs_more M o e (e + M.note) (at.ends (Some ARITHMETIC_EXCEPTION)) (omega arith) (ends (Some ARITHMETIC_EXCEPTION)) st)
 
-  one_access : (a : Access) (next : Answer → Meaning) → ((r : Answer) → Costs o 1 (next r)) → Costs o 3 (access_row at a next)
-  one_access a next costs = costs_more o 2 3 (access_row at a next) (omega arith) (access_row_costs 0 a next costs)
+    one_access : (a : Access) (next : Answer → Meaning) → ((r : Answer) → Costs M o (e + 0) (next r)) → Costs M o (e + 2 * M.note) (access_row at a next)
+    one_access a next costs = costs_more M o (M.note + (e + 0)) (e + 2 * M.note) (access_row at a next) (omega arith) (access_row_costs 0 a next costs)
 
-  on_row_costs : (s : Stmt) → Costs o 3 (on_row at s)
-  on_row_costs (Stmt.Read k) st = one_access (Access.Read k) (nothing_more at) nothing_more_costs st
-  on_row_costs (Stmt.Write k v) st = one_access (Access.Write k v) (nothing_more at) nothing_more_costs st
-  on_row_costs (Stmt.Erase k) st = one_access (Access.Erase k) (nothing_more at) nothing_more_costs st
-  on_row_costs (Stmt.Need k n) st = one_access (Access.Read k) (needed at n) (needed_costs n) st
-  on_row_costs (Stmt.Add k n) st = access_row_costs 1 (Access.Read k) (added at k n) (added_costs k n) st
-  on_row_costs _ st = broken o 3 st
+    on_row_costs : (s : Stmt) → Costs M o (e + 2 * M.note) (on_row at s)
+    on_row_costs (Stmt.Read k) st = one_access (Access.Read k) (nothing_more at) nothing_more_costs st
+    on_row_costs (Stmt.Write k v) st = one_access (Access.Write k v) (nothing_more at) nothing_more_costs st
+    on_row_costs (Stmt.Erase k) st = one_access (Access.Erase k) (nothing_more at) nothing_more_costs st
+    on_row_costs (Stmt.Need k n) st = one_access (Access.Read k) (needed at n) (needed_costs n) st
+    on_row_costs (Stmt.Add k n) st =
+        costs_more M o (M.note + (e + M.note)) (e + 2 * M.note) (access_row at (Access.Read k) (added at k n)) (omega arith) (access_row_costs M.note (Access.Read k) (added at k n) (added_costs k n)) st
+    on_row_costs _ st = broken M o (e + 2 * M.note) st
 
-connected_costs : (o : Owed) (s : Stmt) (c : Option ℕ) → Costs o 3 (connected s c)
-connected_costs o s (Some c) = on_row_costs o (on_connection c) (λ x. ask_costs o (Want.Give c) (λ _. concludes x) 0 (λ _. concludes_costs o 0 x)) s
-connected_costs o s None = throws_costs o 3 CANNOT_GET_JDBC_CONNECTION_EXCEPTION
+  connected_costs : (o : Owed) (s : Stmt) (c : Option ℕ) → Costs M o ((M.note + M.line) + 2 * M.note) (connected s c)
+  connected_costs o s (Some c) =
+      on_row_costs o (on_connection c) (M.note + M.line) (λ x. ask_costs M o (Want.Give c) (λ _. concludes x) M.line (λ _. concludes_costs o M.line x (omega arith))) s
+  connected_costs o s None = throws_costs o ((M.note + M.line) + 2 * M.note) CANNOT_GET_JDBC_CONNECTION_EXCEPTION (omega arith)
 
--- at most a take, two accesses and a give
-pub row_statement_costs : (o : Owed) (tx : Option Live) (s : Stmt) → Costs o 4 (row_statement tx s)
-row_statement_costs o (Some live) s = costs_more o 3 4 (on_row (in_transaction live.transaction) s) (omega arith) (on_row_costs o (in_transaction live.transaction) (concludes_costs o 1) s)
-row_statement_costs o None s = ask_costs o Want.Take (on_take (connected s)) 3 (take_costs o 3 (connected s) (connected_costs o s))
+  -- at most a take, two accesses, a give and a throw
+  pub row_statement_costs : (o : Owed) (tx : Option Live) (s : Stmt) → Costs M o (4 * M.note + M.line) (row_statement tx s)
+  row_statement_costs o (Some live) s =
+      costs_more M o (M.line + 2 * M.note) (4 * M.note + M.line) (on_row (in_transaction live.transaction) s) (omega arith)
+      (on_row_costs o (in_transaction live.transaction) M.line (λ x. concludes_costs o M.line x (omega arith)) s)
+  row_statement_costs o None s =
+      costs_more M o (M.note + ((M.note + M.line) + 2 * M.note)) (4 * M.note + M.line) (row_statement None s) (omega arith)
+      (ask_costs M o Want.Take (on_take (connected s)) ((M.note + M.line) + 2 * M.note) (take_costs M o ((M.note + M.line) + 2 * M.note) (connected s) (connected_costs o s)))
 
 -- ---- the order of the registrations doesn't matter
 

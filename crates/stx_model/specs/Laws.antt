@@ -34,6 +34,16 @@ abbrev pub ReadsWithin : Type 0
 ReadsWithin = (S : Scenario) → InRange S → HasNoCycle (leads S) (length S.methods) → (pool : ℕ → List PoolNote) (store : ℕ → List StoreNote)
     → sum_below (length S.clients) (λ c. notes_read S c (pool c) (store c)) ≤ notes_a_unit * weight S
 
+-- the lines that scripts say for each unit of weight
+abbrev pub lines_a_unit : ℕ
+lines_a_unit = 16
+
+-- where no method leads to itself: over any notes, the scripts of all clients together say at most sixteen lines for each
+-- unit of weight
+abbrev pub SaysWithin : Type 0
+SaysWithin = (S : Scenario) → InRange S → HasNoCycle (leads S) (length S.methods) → (pool : ℕ → List PoolNote) (store : ℕ → List StoreNote)
+    → sum_below (length S.clients) (λ c. length (state_of (script S c (pool c) (store c))).lines) ≤ lines_a_unit * weight S
+
 -- where no method leads to itself: legal histories whose notes the clients' scripts have all read have at most eight
 -- entries for each unit of weight
 abbrev pub EntriesWithin : Type 0

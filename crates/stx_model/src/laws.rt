@@ -1,5 +1,5 @@
 // The laws of the definitions, each carried by the contract of a function that does nothing.
-ghost use Rattle.stx_model.specs.Laws.{AnswersAreRead, Balanced, BreaksAtWrongNotes, DoneIsFaithful, EntriesWithin, GivesAllBack, JournalIsSerial, OwnNotesFresh, ReadsInOrder, ReadsWithin, ScriptsGrow, WantsProper};
+ghost use Rattle.stx_model.specs.Laws.{AnswersAreRead, Balanced, BreaksAtWrongNotes, DoneIsFaithful, EntriesWithin, GivesAllBack, JournalIsSerial, OwnNotesFresh, ReadsInOrder, ReadsWithin, SaysWithin, ScriptsGrow, WantsProper};
 ghost use Rattle.stx_model.specs.Assurances.{AfterCommitComesTooLate, AfterCommitThrowsToTheCaller, CallsLeaveTheContext, JoinedScopesOnlyMark, RequiresNewStandsApart};
 
 /// The store's journal is a serial order. Take any legal history of the store, and run the committed transactions and
@@ -13,6 +13,12 @@ pub fn journal_is_serial()
 /// read at most eight for each unit of the scenario's weight.
 pub fn reads_within()
     ensures { ReadsWithin }
+{}
+
+/// How many lines scripts say, in a scenario in which no method leads to itself. Over any notes, the scripts of all
+/// clients together say at most sixteen for each unit of the scenario's weight.
+pub fn says_within()
+    ensures { SaysWithin }
 {}
 
 /// How long histories grow, in a scenario in which no method leads to itself. Legal histories of the pool and of the store, of which
