@@ -1,8 +1,8 @@
 // The values of the rows after all commits.
 //
 // A first walk over the history keeps of each transaction what no return to a savepoint has undone; a second one lets
-// each commit take effect where it stands. So the whole takes time linear in the history, but for the look-ups by a
-// transaction's number.
+// each commit take effect where it stands. A commit takes up its transaction's accesses again; where a transaction commits
+// once that is linear in the history, but for the look-ups by a transaction's number.
 ghost use Rattle.std.specs.Prelude.{◌≡◌, ℕ, set, IfOk, OnOk, if◌then◌else◌, ◌==◌};
 ghost use Rattle.stx_base.specs.Alone.{first_rows};
 ghost use Rattle.stx_base.specs.Histories.{store_notes};
