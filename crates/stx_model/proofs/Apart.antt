@@ -1,6 +1,6 @@
 -- A scope that gives its older context back leaves it as it was; a joined scope only marks.
-use Rattle.std.proofs.Common.{◌≡◌, ℕ, Bool, true, false, List, [], ◌∷◌, ◌++◌, Option, Some, None, refl, sym, ap, ◌∙◌, subst, append_assoc, append-nil}
-use Rattle.std.specs.Prelude.{⊤, ◌||◌}
+use Rattle.std.proofs.Common.{◌≡◌, ℕ, Bool, true, false, List, [], ◌∷◌, ◌++◌, Option, Some, None, refl, sym, ap, ◌∙◌, subst, append_assoc}
+use Rattle.std.specs.Prelude.{◌||◌}
 use Rattle.stx_scenario.specs.declared.numbers.ClassNo.{ClassNo}
 use Rattle.stx_scenario.specs.declared.numbers.MethodNo.{MethodNo}
 use Rattle.stx_scenario.specs.declared.scenario.Scenario.{Scenario}
@@ -16,13 +16,13 @@ use Rattle.stx_base.specs.declared.manager.Opening.{Opening}
 use Rattle.stx_base.specs.declared.manager.Ending.{Ending}
 use Rattle.stx_base.specs.declared.manager.Round.{Round}
 use Rattle.stx_model.specs.Contexts.{Context, Live, is_active, ordered_labels}
-use Rattle.stx_model.specs.Ending.{Action, RoundBeforeCompletion, RoundAfterCommit, RoundAfterCompletion, CommitStore, RollbackStore, BackToPoint, ReleasePoint, MarkGlobally, ThrowUnexpected, GiveBack, Resumption, completion, completion_after, has_before_commit, ending}
+use Rattle.stx_model.specs.Ending.{Action, RoundBeforeCompletion, RoundAfterCommit, RoundAfterCompletion, CommitStore, RollbackStore, ThrowUnexpected, GiveBack, Resumption, completion, completion_after, has_before_commit, ending}
 use Rattle.stx_base.specs.declared.history.Note.{Note}
 use Rattle.stx_base.specs.Notes.{is_answer}
 use Rattle.stx_model.specs.Meanings.{State, Result, Over, Stops, Breaks, Meaning, finally, say, with_context, with_local, unread, hear, answered, ask, on_take, on_begin}
 use Rattle.stx_model.specs.Opening.{opening, opening_in, opening_without, opening_within, owns_fresh}
-use Rattle.stx_model.specs.Rounds.{Calls, round_of, last_round, stopping_round, swallowing_round}
-use Rattle.stx_model.specs.Scopes.{Scope, say_each, say_bind, say_unbind, suspended, resume, resumed, leaves, live_in, later_or, rolls, ruled, is_set, fresh_context, acts, completes, ends, in_scope, begins, opens, intercepted}
+use Rattle.stx_model.specs.Rounds.{Calls, round_of, stopping_round}
+use Rattle.stx_model.specs.Scopes.{Scope, say_each, say_bind, say_unbind, suspended, resume, resumed, live_in, later_or, rolls, ruled, is_set, fresh_context, acts, completes, ends, in_scope, begins, opens, intercepted}
 use Rattle.stx_model.specs.Assurances.{AtEnd, joined_lines, JoinedScopesOnlyMark, RequiresNewStandsApart}
 
 -- ---- what holds at each end holds after pieces that go on

@@ -1,6 +1,6 @@
 -- How calls leave the context: as it was, but for the mark and the registrations of those that take part in it.
-use Rattle.std.proofs.Common.{◌≡◌, ℕ, zero, suc, Bool, true, false, List, [], ◌∷◌, ◌++◌, Option, Some, None, refl, sym, ap, ◌∙◌, subst}
-use Rattle.std.specs.Prelude.{⊤, ◌==◌, ◌||◌, slice_get}
+use Rattle.std.proofs.Common.{◌≡◌, ℕ, zero, suc, Bool, true, false, List, [], ◌∷◌, Option, Some, None, refl, sym, ap, ◌∙◌, subst}
+use Rattle.std.specs.Prelude.{◌==◌, ◌||◌, slice_get}
 use Rattle.std.proofs.lemmas.Bool.{false≢true}
 use Rattle.stx_scenario.specs.declared.numbers.ClassNo.{ClassNo}
 use Rattle.stx_scenario.specs.declared.numbers.MethodNo.{MethodNo}
@@ -21,18 +21,17 @@ use Rattle.stx_base.specs.declared.manager.Round.{Round}
 use Rattle.stx_base.specs.Attributes.{attribute}
 use Rattle.stx_base.specs.Weight.{body_of, rank}
 use Rattle.stx_model.specs.Contexts.{Context, Live, bare, Registration, is_active, is_live, registered, ordered, with_mark, marked_globally, with_global_mark, without_syncs}
-use Rattle.stx_model.specs.Ending.{Action, RoundBeforeCompletion, RoundAfterCommit, RoundAfterCompletion, Resumption, MarkGlobally, BackToPoint, ReleasePoint, ThrowUnexpected, completion, completion_after, has_before_commit, ending, is_marked, unless_marked}
+use Rattle.stx_model.specs.Ending.{Action, RoundAfterCommit, RoundAfterCompletion, Resumption, BackToPoint, ReleasePoint, ThrowUnexpected, completion, completion_after, has_before_commit, ending, is_marked}
 use Rattle.stx_model.specs.Listeners.{Deed, Register, RunNow, Skip, deeds}
-use Rattle.stx_base.specs.declared.history.Note.{Note}
-use Rattle.stx_model.specs.Meanings.{State, Result, Over, Stops, Breaks, Meaning, and_then, finally, say, with_context, with_local, hear, ask}
-use Rattle.stx_model.specs.Opening.{opening, opening_in, opening_within, opening_without, opens_point, owns_empty}
-use Rattle.stx_model.specs.Statements.{caught, marks, register_listener, register_sync}
-use Rattle.stx_model.specs.Rounds.{Calls, Way, Proxied, Direct, callback_statement, listens, swallowing_round, stopping_round, round_of, last_round}
-use Rattle.stx_model.specs.Scopes.{Scope, leaves, live_in, later_or, rolls, ruled, is_set, started_syncs, suspended, older_if, acts, completes, ends, in_scope, within, empty, opens, intercepted}
-use Rattle.stx_model.specs.Script.{deals, publishes, statement, body, unscoped, proxied, invoked, calls_below}
-use Rattle.stx_model.specs.Assurances.{AtEnd, IsExtended, IsSameTransaction, MayBeMarked, IsKept, IsOnlyExtended, LeavesContext, CallsLeaveTheContext}
+use Rattle.stx_model.specs.Meanings.{State, Result, Over, Stops, Breaks, Meaning, finally, say, with_context, with_local, hear, ask}
+use Rattle.stx_model.specs.Opening.{opening, opening_within, opening_without, owns_empty}
+use Rattle.stx_model.specs.Statements.{caught, register_listener}
+use Rattle.stx_model.specs.Rounds.{Calls, Proxied, Direct, listens, swallowing_round, stopping_round, round_of}
+use Rattle.stx_model.specs.Scopes.{Scope, leaves, later_or, rolls, ruled, is_set, started_syncs, acts, completes, ends, in_scope, within, opens, intercepted}
+use Rattle.stx_model.specs.Script.{deals, statement, body, unscoped, proxied, invoked, calls_below}
+use Rattle.stx_model.specs.Assurances.{AtEnd, IsSameTransaction, MayBeMarked, IsKept, IsOnlyExtended, LeavesContext, CallsLeaveTheContext}
 use Rattle.stx_model.proofs.Apart.{Apart, finally_at_end, ask_at_end, live_at_end, hear_keeps, fresh_stands_apart, completes_empty}
-use Rattle.stx_model.proofs.Keeping.{kept_refl, kept_trans, HasKept, Keeps, finally_keeps, and_then_keeps, either_keeps, ask_keeps, CallsKeep, callback_statement_keeps, listens_keeps, caught_keeps, marks_keeps, registers_keeps, round_of_keeps, swallowing_round_keeps, stopping_round_keeps}
+use Rattle.stx_model.proofs.Keeping.{kept_refl, HasKept, Keeps, finally_keeps, and_then_keeps, either_keeps, CallsKeep, callback_statement_keeps, listens_keeps, caught_keeps, marks_keeps, registers_keeps, round_of_keeps, swallowing_round_keeps, stopping_round_keeps}
 
 -- ---- a piece after a piece
 

@@ -1,5 +1,5 @@
 -- An exception of an after_commit callback comes too late.
-use Rattle.std.proofs.Common.{◌≡◌, ℕ, Bool, true, false, List, [], ◌∷◌, Option, Some, None, refl, sym, ap, ◌∙◌}
+use Rattle.std.proofs.Common.{◌≡◌, ℕ, true, false, List, [], ◌∷◌, Option, Some, None, refl, ap, ◌∙◌}
 use Rattle.std.specs.Prelude.{slice_get, ◌==◌}
 use Rattle.std.specs.Option.{option_map}
 use Rattle.std.proofs.lemmas.Bool.{eq-eqb}
@@ -13,11 +13,10 @@ use Rattle.stx_base.specs.declared.manager.Round.{Round}
 use Rattle.stx_model.specs.Contexts.{Live}
 use Rattle.stx_model.specs.Ending.{Action, RoundBeforeCompletion, CommitStore, RoundAfterCommit, RoundAfterCompletion, GiveBack, Resumption, completion, completion_after, has_before_commit}
 use Rattle.stx_base.specs.declared.history.Note.{Note}
-use Rattle.stx_base.specs.Notes.{is_answer}
 use Rattle.stx_model.specs.Meanings.{State, Result, Over, Breaks, finally, hear, ask, answered}
 use Rattle.stx_model.specs.Rounds.{Calls, round_of, last_round, stopping_round, swallowing_round}
 use Rattle.stx_model.specs.Scopes.{Scope, live_in, later_or, acts, completes}
-use Rattle.stx_model.specs.Assurances.{AtEnd, AfterCommitComesTooLate, AfterCommitThrowsToTheCaller}
+use Rattle.stx_model.specs.Assurances.{AfterCommitComesTooLate, AfterCommitThrowsToTheCaller}
 use Rattle.stx_model.proofs.Apart.{finally_at_end, live_at_end, ask_at_end}
 
 same_number : (t : ℕ) → (t == t) ≡ true

@@ -1,7 +1,7 @@
 -- The opening of a scope: what the manager does first, by the attribute's propagation and the context that it meets.
 -- (Spring: AbstractPlatformTransactionManager.getTransaction without a transaction, handleExistingTransaction within one;
 -- the reference's 'Transaction Propagation'.)
-use Rattle.std.specs.Prelude.{Bool, true, false, not, ◌&&◌, List, Option, Some, None}
+use Rattle.std.specs.Prelude.{Bool, true, false, not, Option, Some, None}
 use Rattle.stx_scenario.specs.declared.classes.TheConstants.{CANNOT_CREATE_TRANSACTION_EXCEPTION, ILLEGAL_TRANSACTION_STATE_EXCEPTION, NESTED_TRANSACTION_NOT_SUPPORTED_EXCEPTION}
 use Rattle.stx_scenario.specs.declared.scenario.Propagation.{Propagation}
 use Rattle.stx_scenario.specs.declared.scenario.Settings.{Settings}

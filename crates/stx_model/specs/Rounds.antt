@@ -1,7 +1,7 @@
 -- Callbacks: what their bodies hold, and the four rounds in which the registrations are called back.
 -- How a method is called is a parameter.
 -- (Spring: TransactionSynchronizationUtils, TransactionalApplicationListenerSynchronization.)
-use Rattle.std.specs.Prelude.{◌-◌, Bool, true, false, List, [], ◌∷◌, Option, Some, None, slice_get}
+use Rattle.std.specs.Prelude.{Bool, true, false, List, [], ◌∷◌, Option, Some, None, slice_get}
 use Rattle.stx_scenario.specs.declared.numbers.ClassNo.{ClassNo}
 use Rattle.stx_scenario.specs.declared.numbers.MethodNo.{MethodNo}
 use Rattle.stx_scenario.specs.declared.numbers.ListenerNo.{ListenerNo}

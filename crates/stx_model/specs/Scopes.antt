@@ -1,6 +1,6 @@
 -- Intercepted calls: suspension and resumption, the opening of a scope, its end and its completion.
 -- (Spring: TransactionAspectSupport.invokeWithinTransaction, AbstractPlatformTransactionManager.)
-use Rattle.std.specs.Prelude.{ℕ, ◌-◌, Bool, true, false, List, [], ◌∷◌, Option, Some, None}
+use Rattle.std.specs.Prelude.{ℕ, Bool, true, false, List, [], ◌∷◌, Option, Some, None}
 use Rattle.stx_scenario.specs.declared.numbers.ClassNo.{ClassNo}
 use Rattle.stx_scenario.specs.declared.numbers.MethodNo.{MethodNo}
 use Rattle.stx_scenario.specs.declared.classes.TheConstants.{CANNOT_CREATE_TRANSACTION_EXCEPTION, UNEXPECTED_ROLLBACK_EXCEPTION}
@@ -14,13 +14,12 @@ use Rattle.stx_base.specs.declared.manager.Kind.{Kind}
 use Rattle.stx_base.specs.declared.manager.Opening.{Opening}
 use Rattle.stx_base.specs.declared.manager.Ending.{Ending}
 use Rattle.stx_base.specs.declared.manager.Round.{Round}
-use Rattle.stx_base.specs.Attributes.{attribute}
 use Rattle.stx_base.specs.Rules.{winner, rolls_back}
 use Rattle.stx_model.specs.Contexts.{Context, Live, Registration, bare, ordered_labels, with_global_mark}
 use Rattle.stx_model.specs.Opening.{opening}
 use Rattle.stx_model.specs.Ending.{Action, RoundBeforeCompletion, RoundAfterCommit, RoundAfterCompletion, CommitStore, RollbackStore, BackToPoint, ReleasePoint, MarkGlobally, ThrowUnexpected, GiveBack, Resumption, ending, has_before_commit, completion, completion_after}
 use Rattle.stx_model.specs.Meanings.{State, Over, Breaks, Meaning, finally, say, with_context, with_local, ask, on_take, on_begin}
-use Rattle.stx_model.specs.Rounds.{Calls, told, stopping_round, swallowing_round, round_of, last_round}
+use Rattle.stx_model.specs.Rounds.{Calls, stopping_round, swallowing_round, round_of, last_round}
 
 -- ---- suspension and resumption (AbstractPlatformTransactionManager.suspend, resume)
 

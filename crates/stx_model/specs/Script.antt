@@ -1,7 +1,7 @@
 -- The script: what a client's calls denote, given what its own shared calls were answered.
 -- How a method is called inside another is a parameter, `calls`, and is closed once, by the ranks of methods, at the end.
 -- (Spring: the reference's 'Declarative Transaction Management'; TransactionalApplicationListenerMethodAdapter.)
-use Rattle.std.specs.Prelude.{ℕ, zero, suc, ◌+◌, ◌-◌, true, false, ◌==◌, List, [], ◌∷◌, Option, Some, None, slice_get, unwrap_or}
+use Rattle.std.specs.Prelude.{ℕ, zero, suc, ◌+◌, true, false, ◌==◌, List, [], ◌∷◌, Option, Some, None, slice_get, unwrap_or}
 use Rattle.stx_scenario.specs.declared.numbers.MethodNo.{MethodNo}
 use Rattle.stx_scenario.specs.declared.numbers.EventNo.{EventNo}
 use Rattle.stx_scenario.specs.declared.scenario.Scenario.{Scenario}
@@ -16,9 +16,9 @@ use Rattle.stx_base.specs.Weight.{body_of, rank}
 use Rattle.stx_model.specs.Contexts.{is_active, is_live}
 use Rattle.stx_model.specs.Listeners.{Deed, Register, RunNow, Skip, deeds}
 use Rattle.stx_model.specs.Meanings.{at_first, Result, Over, Stops, Breaks, Meaning, and_then, finally, say}
-use Rattle.stx_model.specs.Statements.{throws, caught, marks, register_sync, register_listener}
+use Rattle.stx_model.specs.Statements.{caught, marks, register_sync, register_listener}
 use Rattle.stx_model.specs.Rounds.{Calls, callback_statement, listens, Proxied, Direct}
-use Rattle.stx_model.specs.Scopes.{leaves, opens, intercepted}
+use Rattle.stx_model.specs.Scopes.{leaves, intercepted}
 
 module _ (S : Scenario) (calls : Calls) where
   -- ---- bodies

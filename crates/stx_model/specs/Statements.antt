@@ -1,6 +1,6 @@
 -- The statements that call no method: throws, statements on rows in a transaction and outside one, marks, registrations.
 -- (Spring: DataSourceUtils, TransactionInterceptor.currentTransactionStatus, TransactionSynchronizationManager.)
-use Rattle.std.specs.Prelude.{ℕ, ◌+◌, ◌-◌, ◌^◌, Bool, true, false, ◌&&◌, ℤ, pos, negsuc, ◌+ℤ◌, int_lt, int_le, List, Option, Some, None, slice_get}
+use Rattle.std.specs.Prelude.{ℕ, ◌-◌, ◌^◌, Bool, true, false, ◌&&◌, ℤ, pos, negsuc, ◌+ℤ◌, int_lt, int_le, List, Option, Some, None, slice_get}
 use Rattle.stx_scenario.specs.declared.numbers.ClassNo.{ClassNo}
 use Rattle.stx_scenario.specs.declared.numbers.RowNo.{RowNo}
 use Rattle.stx_scenario.specs.declared.numbers.SyncNo.{SyncNo}
@@ -17,7 +17,6 @@ use Rattle.stx_base.specs.declared.line.Line.{Line}
 use Rattle.stx_base.specs.declared.line.Label.{Label}
 use Rattle.stx_base.specs.Classes.{is_below}
 use Rattle.stx_model.specs.Contexts.{Live, Registration, with_registration}
-use Rattle.stx_model.specs.Listeners.{Register}
 use Rattle.stx_model.specs.Meanings.{Over, Breaks, Meaning, say, with_context, with_local, ask, on_take, on_access}
 
 -- ---- throwing and catching
