@@ -26,7 +26,14 @@ impl Model for Holder {
 
     ghost Value = { Binding };
 
-    ghost view = { λ h. record { connection = h.connection; transaction = h.transaction; running = is_some h.session; read_only = h.read_only; mark = h.mark; points = h.points } };
+    ghost view = { λ h. record {
+      connection = h.connection;
+      transaction = h.transaction;
+      running = is_some h.session;
+      read_only = h.read_only;
+      mark = h.mark;
+      points = h.points;
+    } };
 
     ghost invariant = { λ h. ForSome h.session (λ number. number ≡ h.transaction) };
 }

@@ -20,7 +20,10 @@ impl Model for Registry {
 
     ghost Value = { Registrations };
 
-    ghost view = { λ r. record { list = map registration r.registrations.items; spare = vec_capacity r.registrations - vec_len r.registrations } };
+    ghost view = { λ r. record {
+      list = map registration r.registrations.items;
+      spare = vec_capacity r.registrations - vec_len r.registrations;
+    } };
 }
 
 impl Registry {
