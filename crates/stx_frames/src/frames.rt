@@ -1,5 +1,5 @@
 // The frames themselves, the innermost last.
-ghost use Rattle.std.specs.Prelude.{◌≡◌, ◌+◌, ◌≤◌, [], ◌∷◌, ◌++◌, OnOk, MatchOption, None};
+ghost use Rattle.std.specs.Prelude.{◌≡◌, ◌+◌, ◌≤◌, [], ◌∷◌, ◌++◌, length, OnOk, MatchOption, None};
 ghost use Rattle.std.specs.Borrow.{sem};
 ghost use Rattle.std.specs.Option.{option_to_list, option_copied_mut};
 ghost use Rattle.stx_frames.specs.Stacks.{innermost};
@@ -67,11 +67,11 @@ impl<S> Frames<S> {
         self.frames.last_mut()
     }
 
-    /// Takes the innermost frame off, or nothing where there is none. Its room stays.
+    /// Takes the innermost frame off, or nothing where there is none; it leaves room for another.
     pub fn pop(&mut self) -> Option<Frame<S>>
         ensures items { self.old.items ≡ self.new.items ++ option_to_list result }
         ensures value { result ≡ last_of self.old.items }
-        ensures kept { self.old.spare ≤ self.new.spare }
+        ensures room { self.new.spare ≡ self.old.spare + length (option_to_list result) }
     {
         self.frames.pop()
     }
