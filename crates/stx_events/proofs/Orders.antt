@@ -1,6 +1,6 @@
 -- A stable sort by an order value is the order of the definitions: two lists that rise, and hold the same items of each
 -- order value in one order, are the same.
-use Rattle.std.proofs.Common.{◌≡◌, suc, ℤ, Bool, true, false, not, cond, List, [], ◌∷◌, ◌++◌, map, filter, refl, sym, ap, ◌∙◌, arith, inl, inr, is_lt, true≢false}
+use Rattle.std.proofs.Common.{◌&&◌, Less, Equal, Greater, add-one, ◌≡◌, suc, ℤ, Bool, true, false, not, cond, List, [], ◌∷◌, ◌++◌, map, filter, refl, sym, ap, ◌∙◌, arith, inl, inr, is_lt, true≢false}
 use Rattle.std.specs.Prelude.{int_lt}
 use Rattle.std.specs.List.{fold}
 use Rattle.std.specs.Cmp.{IsStrictWeakOrder}
@@ -29,7 +29,7 @@ module _ {X : Type 0} (order : X → ℤ) where
   tested : (x y : X) → lt x y ≡ int_lt (order x) (order y)
   tested x y = go (int_lt (order x) (order y)) (int_lt (order y) (order x))
     where
-      go : (a b : Bool) → is_lt (cond a Rattle.std.proofs.Common.Less (cond b Rattle.std.proofs.Common.Greater Rattle.std.proofs.Common.Equal)) ≡ a
+      go : (a b : Bool) → is_lt (cond a Less (cond b Greater Equal)) ≡ a
       go true b = refl
       go false true = refl
       go false false = refl
@@ -56,7 +56,7 @@ module _ {X : Type 0} (order : X → ℤ) where
   same-left : (x y : X) → same x y ≡ true → lt x y ≡ false
   same-left x y h = go (lt x y) (lt y x) h
     where
-      go : (a b : Bool) → Rattle.std.specs.Prelude.◌&&◌ (not a) (not b) ≡ true → a ≡ false
+      go : (a b : Bool) → (not a && not b) ≡ true → a ≡ false
       go true b e = sym e
       go false b e = refl
 
@@ -78,7 +78,7 @@ module _ {X : Type 0} (order : X → ℤ) where
   Rises-from_sort (x ∷ []) sorted = (tt, tt)
   Rises-from_sort (x ∷ y ∷ ys) sorted =
       let tail : IsSortedBy lt (y ∷ ys) =
-      λ k d p q. rw Rattle.std.proofs.Common.add-one (rw Rattle.std.proofs.Common.add-one at (sorted (suc k) d (omega arith) (omega arith))) in
+      λ k d p q. rw add-one (rw add-one at (sorted (suc k) d (omega arith) (omega arith))) in
       let up = Rises-from_sort (y ∷ ys) tail in
       let first = sorted 0 x (omega arith) (omega arith) in
       ((first, NoneLess-chain x y ys first up.0), up)
@@ -116,7 +116,7 @@ module _ {X : Type 0} (order : X → ℤ) where
       same-right : (a b : X) → same a b ≡ true → lt b a ≡ false
       same-right a b h = go (lt a b) (lt b a) h
         where
-          go : (s t : Bool) → Rattle.std.specs.Prelude.◌&&◌ (not s) (not t) ≡ true → t ≡ false
+          go : (s t : Bool) → (not s && not t) ≡ true → t ≡ false
           go true t e = absurd (true≢false (sym e))
           go false true e = sym e
           go false false e = refl

@@ -41,15 +41,18 @@ fn scenario_of(alloc: Global, listeners: List<Listener>) -> Scenario
     }
 }
 
+/// What is done with a listener without fallback, and with one of a lower order value that has it, outside a transaction.
+fn deeds_outside(alloc: Global) -> Result<List<Deed>, NoMemory> {
+    let mut listeners = List::new(alloc);
+    listeners.push(listener(alloc, 2, false)?)?;
+    listeners.push(listener(alloc, 1, true)?)?;
+    let scenario = scenario_of(alloc, listeners);
+    on_publish(alloc, &scenario, EventNo(0), true, false)
+}
+
 #[test]
-fn one_with_fallback_and_a_lower_order_runs_before_another_is_skipped(
-    rt: HostRuntime,
-) -> Result<(), Fail> {
-    let mut listeners = List::new(rt.alloc());
-    listeners.push(listener(rt.alloc(), 2, false)?)?;
-    listeners.push(listener(rt.alloc(), 1, true)?)?;
-    let scenario = scenario_of(rt.alloc(), listeners);
-    let deeds = on_publish(rt.alloc(), &scenario, EventNo(0), true, false)?;
+fn the_lower_order_comes_first(rt: HostRuntime) -> Result<(), Fail> {
+    let deeds = deeds_outside(rt.alloc())?;
     let run = Deed::RunNow(ListenerNo(1));
     let skipped = Deed::Skip(ListenerNo(0));
     assert_eq!(rt; deeds.as_slice(), [run, skipped].as_slice());
