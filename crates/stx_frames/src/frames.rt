@@ -1,5 +1,5 @@
 // The frames themselves, the innermost last.
-ghost use Rattle.std.specs.Prelude.{◌≡◌, ◌+◌, ◌≤◌, [], ◌∷◌, ◌++◌, length, OnOk, MatchOption, None};
+ghost use Rattle.std.specs.Prelude.{◌≡◌, ◌+◌, ◌≤◌, [], ◌∷◌, ◌++◌, length, OnOk, OnErr, MatchOption, None};
 ghost use Rattle.std.specs.Borrow.{sem};
 ghost use Rattle.std.specs.Option.{option_to_list, option_copied_mut};
 ghost use Rattle.stx_frames.specs.Stacks.{innermost};
@@ -40,11 +40,12 @@ impl<S> Frames<S> {
         }
     }
 
-    /// Makes room for one frame more.
+    /// Makes room for one frame more. It fails only where there was none.
     pub fn reserve(&mut self, _alloc: Global) -> Result<(), NoMemory>
         ensures items { self.new.items ≡ self.old.items }
         ensures room { OnOk result (1 ≤ self.new.spare) }
         ensures kept { self.old.spare ≤ self.new.spare }
+        ensures full { OnErr result (self.old.spare ≡ 0) }
     {
         self.frames.reserve(1)?;
         Ok(())

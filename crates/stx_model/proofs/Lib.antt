@@ -49,3 +49,4 @@ pub mod Breaks
 pub mod BreaksPieces
 pub mod CallableLaw
 pub mod BreaksLaw
+pub mod Sorting

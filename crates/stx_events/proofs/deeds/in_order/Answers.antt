@@ -3,7 +3,7 @@ use Rattle.std.proofs.Common.{rules, sym, ap, map, ◌∙◌}
 use Rattle.std.proofs.lemmas.List.Sorted.{answers_always}
 use Rattle.stx_model.specs.Orders.{by_order}
 use Rattle.stx_events.specs.inner.Heard.{listener_of}
-use Rattle.stx_events.proofs.Orders.{by_order-from_sort, by_order-map}
+use Rattle.stx_model.proofs.Sorting.{by_order-from_sort, by_order-map}
 use Rattle.stx_events.proofs.deeds.in_order.Goals as goal
 
 pub returns : goal.returns
