@@ -1,5 +1,5 @@
 // A client: what it wants of the pool and the store, and the lines that it has said.
-ghost use Rattle.std.specs.Prelude.{◌≡◌, ◌≢◌, ◌<◌, ◌≤◌, ◌↔◌, length, false, Some, None, IfOk, OnOk, OnErr, IsTrue};
+ghost use Rattle.std.specs.Prelude.{◌≡◌, ◌≢◌, ◌<◌, ◌≤◌, ◌↔◌, ◌⊎◌, length, false, Some, None, IfOk, OnOk, OnErr, IsTrue};
 ghost use Rattle.stx_base.specs.declared.call.Want.{Want as WantData};
 ghost use Rattle.stx_base.specs.Notes.{call_want, is_reply};
 ghost use Rattle.stx_model.specs.Meanings.{state_of, stop_of};
