@@ -23,7 +23,7 @@ use Rattle.stx_model.specs.Meanings.{State, Result, Over, Stops, Breaks, Meaning
 use Rattle.stx_model.specs.Opening.{opening, opening_in, opening_without, opening_within, owns_fresh}
 use Rattle.stx_model.specs.Rounds.{Calls, round_of, stopping_round}
 use Rattle.stx_model.specs.Scopes.{Scope, say_each, say_bind, say_unbind, suspended, resume, resumed, live_in, later_or, rolls, ruled, is_set, fresh_context, acts, completes, ends, in_scope, begins, opens, intercepted}
-use Rattle.stx_model.specs.Assurances.{AtEnd, joined_lines, JoinedScopesOnlyMark, RequiresNewStandsApart}
+use Rattle.stx_model.specs.Assurances.{AtEnd, OnlyMarks, JoinedScopesOnlyMark, RequiresNewStandsApart}
 
 -- ---- what holds at each end holds after pieces that go on
 
@@ -264,18 +264,23 @@ requires_new_stands_apart S calls m a run st is =
 
 -- ---- a joined scope
 
+module _ (S : Scenario) (calls : Calls) (scope : Scope) (x : Option ClassNo) (st : State) where
+  abbrev AsKind : Ending → Kind → Type 0
+  AsKind e k =
+      (after : State) × (elim (has_before_commit k e) [
+        | true ↦ finally (round_of scope.owns (stopping_round S calls Round.BeforeCommit) st) (λ y. acts S calls scope (completion_after k e y) (later_or y x))
+        | false ↦ acts S calls scope (completion k e) x st
+      ] ≡ Over x after) × OnlyMarks scope e x st after
+
+  marked_then_left : (st.lines ++ Line.MarkGlobal ∷ []) ++ Line.Leave scope.method x ∷ [] ≡ st.lines ++ (Line.MarkGlobal ∷ [] ++ Line.Leave scope.method x ∷ [])
+  marked_then_left = append_assoc st.lines (Line.MarkGlobal ∷ []) (Line.Leave scope.method x ∷ [])
+
+  completes_joined : (e : Ending) → AsKind e Kind.Join
+  unfolding acts completion
+  completes_joined Ending.Commit = (_, refl, record { lines = refl; context = refl; local = refl; pool = refl; store = refl })
+  completes_joined Ending.Rollback = (_, refl, record { lines = marked_then_left; context = refl; local = refl; pool = refl; store = refl })
+  completes_joined Ending.Unexpected = (_, refl, record { lines = marked_then_left; context = refl; local = refl; pool = refl; store = refl })
+
 pub joined_scopes_only_mark : JoinedScopesOnlyMark
-unfolding completes acts completion
-joined_scopes_only_mark S calls scope e x st joins =
-    subst (λ k. AtEnd (elim (has_before_commit k e) [
-      | true ↦ finally (round_of scope.owns (stopping_round S calls Round.BeforeCommit) st) (λ y. acts S calls scope (completion_after k e y) (later_or y x))
-      | false ↦ acts S calls scope (completion k e) x st
-    ]) (λ y after. (y ≡ x) × (after.lines ≡ st.lines ++ (joined_lines e ++ Line.Leave scope.method x ∷ [])))) (sym joins) (by e)
-  where
-    by : (e : Ending) → AtEnd (elim (has_before_commit Kind.Join e) [
-      | true ↦ finally (round_of scope.owns (stopping_round S calls Round.BeforeCommit) st) (λ y. acts S calls scope (completion_after Kind.Join e y) (later_or y x))
-      | false ↦ acts S calls scope (completion Kind.Join e) x st
-    ]) (λ y after. (y ≡ x) × (after.lines ≡ st.lines ++ (joined_lines e ++ Line.Leave scope.method x ∷ [])))
-    by Ending.Commit = (refl, refl)
-    by Ending.Rollback = (refl, append_assoc st.lines (Line.MarkGlobal ∷ []) (Line.Leave scope.method x ∷ []))
-    by Ending.Unexpected = (refl, append_assoc st.lines (Line.MarkGlobal ∷ []) (Line.Leave scope.method x ∷ []))
+unfolding completes
+joined_scopes_only_mark S calls scope e x st joins = subst (AsKind S calls scope x st e) (sym joins) (completes_joined S calls scope x st e)

@@ -11,7 +11,7 @@ use Rattle.stx_base.specs.declared.manager.Kind.{Kind}
 use Rattle.stx_base.specs.declared.manager.Opening.{Opening}
 use Rattle.stx_base.specs.declared.manager.Ending.{Ending}
 use Rattle.stx_base.specs.declared.manager.Round.{Round}
-use Rattle.stx_model.specs.Contexts.{Context, Live, Registration}
+use Rattle.stx_model.specs.Contexts.{Context, Live, Registration, with_global_mark}
 use Rattle.stx_model.specs.Ending.{GiveBack, Resumption}
 use Rattle.stx_base.specs.declared.history.Note.{Note}
 use Rattle.stx_model.specs.Meanings.{State, Result, Over, Meaning, finally, hear}
@@ -32,12 +32,26 @@ abbrev pub joined_lines : Ending → List Line
 joined_lines Ending.Commit = []
 joined_lines _ = Line.MarkGlobal ∷ []
 
--- between its End line and its Leave line a joined scope says nothing but that it marks the transaction, and that only
--- where its ending isn't commit; it throws nothing of its own
+-- the transaction is marked where the ending isn't commit, and nothing else is changed
+abbrev pub joined_context : Ending → Context → Context
+joined_context Ending.Commit context = context
+joined_context _ context = with_global_mark true context
+
+-- what the completion of a joined scope leaves: these lines more, the mark, the local mark of the scope round it, and no
+-- note read
+pub record OnlyMarks (scope : Scope) (e : Ending) (x : Option ClassNo) (st after : State) : Type 0 where
+  pub lines : after.lines ≡ st.lines ++ (joined_lines e ++ Line.Leave scope.method x ∷ [])
+  pub context : after.context ≡ joined_context e st.context
+  pub local : after.local ≡ scope.outer
+  pub pool : after.pool ≡ st.pool
+  pub store : after.store ≡ st.store
+
+-- the completion of a joined scope is always over, with what its body threw: between its End line and its Leave line it
+-- says nothing but that it marks the transaction, and it marks it only where its ending isn't commit
 abbrev pub JoinedScopesOnlyMark : Type 0
 JoinedScopesOnlyMark =
     (S : Scenario) (calls : Calls) (scope : Scope) (e : Ending) (x : Option ClassNo) (st : State) → scope.kind ≡ Kind.Join
-    → AtEnd (completes S calls scope e x st) (λ y after. (y ≡ x) × (after.lines ≡ st.lines ++ (joined_lines e ++ Line.Leave scope.method x ∷ [])))
+    → (after : State) × (completes S calls scope e x st ≡ Over x after) × OnlyMarks scope e x st after
 
 -- ---- requires_new
 

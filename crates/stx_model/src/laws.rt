@@ -35,8 +35,9 @@ pub fn own_notes_fresh()
 {}
 
 /// A joined scope only marks. Between its `end` line and its `leave` line a scope that takes part in the transaction of
-/// another says nothing but that it marks it for rollback, and that only where its ending isn't commit; it throws nothing
-/// of its own, and leaves with what its body threw (`AbstractPlatformTransactionManager.processRollback`,
+/// another says nothing but that it marks it for rollback, and that only where its ending isn't commit. Its completion
+/// reads no note and is always over: it throws nothing of its own, leaves with what its body threw, and changes nothing
+/// of the context but that mark (`AbstractPlatformTransactionManager.processRollback`,
 /// `setGlobalRollbackOnParticipationFailure`).
 pub fn joined_scopes_only_mark()
     ensures { JoinedScopesOnlyMark }
