@@ -33,7 +33,7 @@ finally_at_end P (Over x st) next then = then x st
 finally_at_end P (Stops w st) next then = tt
 finally_at_end P (Breaks st) next then = tt
 
-either_at_end : (P : Option ClassNo → State → Type 0) (b : Bool) (first second : Result) → AtEnd first P → AtEnd second P
+pub either_at_end : (P : Option ClassNo → State → Type 0) (b : Bool) (first second : Result) → AtEnd first P → AtEnd second P
     → AtEnd (elim b [ true ↦ first | false ↦ second ]) P
 either_at_end P true first second one other = one
 either_at_end P false first second one other = other
@@ -228,7 +228,7 @@ module _ (S : Scenario) (calls : Calls) (m : MethodNo) (a : TxAttr) (run : Meani
   begins_apart owns None st =
       (resume_gives older st, (say_each_keeps Line.Resume (ordered_labels older.syncs) (say_bind older.tx (with_context older st))).1 ∙ bind_local older.tx (with_context older st))
 
-suspended_local : (suspends : Bool) (st : State) → (suspended suspends st).local ≡ st.local
+pub suspended_local : (suspends : Bool) (st : State) → (suspended suspends st).local ≡ st.local
 suspended_local false st = refl
 suspended_local true st = unbind_local st.context.tx (say_each Line.Suspend (ordered_labels st.context.syncs) st) ∙ (say_each_keeps Line.Suspend (ordered_labels st.context.syncs) st).1
   where

@@ -14,7 +14,8 @@ use Rattle.stx_base.specs.declared.manager.Round.{Round}
 use Rattle.stx_model.specs.Contexts.{Context, Live, Registration, with_global_mark}
 use Rattle.stx_model.specs.Ending.{GiveBack, Resumption}
 use Rattle.stx_base.specs.declared.history.Note.{Note}
-use Rattle.stx_model.specs.Meanings.{State, Result, Over, Meaning, finally, hear}
+use Rattle.stx_model.specs.Meanings.{State, Result, Over, Meaning, state_of, finally, hear}
+use Rattle.stx_model.specs.Reads.{StartsWith}
 use Rattle.stx_model.specs.Rounds.{Calls, round_of, last_round, stopping_round, swallowing_round}
 use Rattle.stx_base.specs.Weight.{body_of}
 use Rattle.stx_model.specs.Opening.{opening}
@@ -85,6 +86,18 @@ AfterCommitThrowsToTheCaller =
     (S : Scenario) (calls : Calls) (scope : Scope) (y : ClassNo) (after : State)
     → AtEnd (finally (last_round S calls scope.owns true after) (λ _. acts S calls scope (GiveBack ∷ Resumption ∷ []) (Some y))) (λ x end. x ≡ Some y)
 
+-- a commit stays said: where the rounds before the store's commit ended and the store committed, the lines of the
+-- completion, whatever its end, begin with those before the commit and the line of the commit
+abbrev pub CommittedStaysSaid : Type 0
+CommittedStaysSaid =
+    (S : Scenario) (bound : ℕ) (scope : Scope) (x z : Option ClassNo) (live : Live) (number : ℕ) (st before completed : State)
+    → scope.kind ≡ Kind.Fresh
+    → round_of scope.owns (stopping_round S (calls_below S bound) Round.BeforeCommit) st ≡ Over None before
+    → round_of scope.owns (swallowing_round S (calls_below S bound) Round.BeforeCompletion false) before ≡ Over z completed
+    → completed.context.tx ≡ Some live
+    → slice_get completed.store 0 ≡ Some (StoreNote.Commit live.transaction number)
+    → StartsWith (state_of (completes S (calls_below S bound) scope Ending.Commit x st)).lines (completed.lines ++ Line.Commit live.transaction number ∷ [])
+
 -- ---- contexts
 
 -- registrations may have been added at the end
@@ -121,9 +134,10 @@ LeavesContext Opening.Point before after = IsOnlyExtended before after
 LeavesContext (Opening.Empty false false) before after = IsOnlyExtended before after
 LeavesContext _ before after = after ≡ before
 
--- after a call of a method with an attribute, however it ends, the context is the one before it, but for that
+-- after a call of a method with an attribute, however it ends, the context is the one before it, but for that, and the
+-- scope round it has the local mark that it had
 abbrev pub CallsLeaveTheContext : Type 0
 CallsLeaveTheContext =
     (S : Scenario) (bound : ℕ) (m : MethodNo) (a : TxAttr) (st : State)
     → AtEnd (intercepted S (calls_below S bound) m a (body S (calls_below S bound) (body_of S m)) st)
-    (λ x after. LeavesContext (opening S.settings a st.context) st.context after.context)
+    (λ x after. LeavesContext (opening S.settings a st.context) st.context after.context × (after.local ≡ st.local))
