@@ -1,5 +1,5 @@
 // A client: what it wants of the pool and the store, and the lines that it has said.
-ghost use Rattle.std.specs.Prelude.{◌≡◌, ◌≢◌, ◌<◌, ◌≤◌, ◌↔◌, length, false, Some, None, IfOk, OnOk, OnErr, IsTrue};
+ghost use Rattle.std.specs.Prelude.{◌≡◌, ◌≢◌, ◌<◌, ◌≤◌, ◌↔◌, ◌⊎◌, length, false, Some, None, IfOk, OnOk, OnErr, IsTrue};
 ghost use Rattle.stx_base.specs.declared.call.Want.{Want as WantData};
 ghost use Rattle.stx_base.specs.Notes.{call_want, is_reply};
 ghost use Rattle.stx_model.specs.Meanings.{state_of, stop_of};
@@ -156,6 +156,7 @@ fn make_room(lines: &mut Roomy<Line>, notes: &mut Notes) -> Result<(), NoMemory>
     ensures pool { notes.new.pool.items ≡ notes.old.pool.items }
     ensures store { notes.new.store.items ≡ notes.old.store.items }
     ensures room { OnOk result ((5 ≤ lines.new.spare) × (0 < notes.new.pool.spare) × (0 < notes.new.store.spare)) }
+    ensures full { OnErr result ((lines.old.spare < 5) ⊎ (notes.old.pool.spare ≡ 0) ⊎ (notes.old.store.spare ≡ 0)) }
 {
     lines.reserve(MOST_LINES)?;
     notes.pool.reserve(1)?;

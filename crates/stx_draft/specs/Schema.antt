@@ -7,6 +7,7 @@ use Rattle.stx_draft.specs.declared.schema.Shape.{Shape}
 use Rattle.stx_draft.specs.declared.schema.Leaf.{Leaf}
 use Rattle.stx_draft.specs.declared.schema.Kind.{Kind}
 use Rattle.stx_draft.specs.declared.schema.Field.{Field}
+use Rattle.stx_scenario.specs.declared.limits.TheConstants.{MOST_BEANS, MOST_CALLS, MOST_CLASSES, MOST_CLIENTS, MOST_EVENTS, MOST_LISTENERS, MOST_METHODS, MOST_ROWS, MOST_RULES, MOST_STATEMENTS, MOST_SYNCS, MOST_TURNS}
 use Rattle.stx_scenario.specs.Names.{is_name, is_class_name}
 use Rattle.stx_refusals.specs.Faults.{unless}
 use Rattle.stx_names.specs.Integers.{is_pool, is_order, is_client}
@@ -31,21 +32,21 @@ abbrev pub key_of : Field → Key
 key_of field = record { name = field.key.now; required = field.required; kind = field.kind }
 
 abbrev pub statements : Kind
-statements = Kind.Values Leaf.Statement 256
+statements = Kind.Values Leaf.Statement MOST_STATEMENTS
 
 -- the most entries of each array of the root
 abbrev pub root_keys : List Key
 root_keys =
-    optional (codes "events") (Kind.Values Leaf.Name 256)
-    ∷ optional (codes "schedule") (Kind.Values Leaf.Client 100000)
+    optional (codes "events") (Kind.Values Leaf.Name MOST_EVENTS)
+    ∷ optional (codes "schedule") (Kind.Values Leaf.Client MOST_TURNS)
     ∷ optional (codes "settings") (Kind.Table Shape.Settings)
-    ∷ optional (codes "rows") (Kind.Tables Shape.Row 0 10000)
-    ∷ optional (codes "classes") (Kind.Tables Shape.Class 0 1000)
-    ∷ optional (codes "beans") (Kind.Tables Shape.Bean 0 256)
-    ∷ optional (codes "methods") (Kind.Tables Shape.Method 0 1000)
-    ∷ optional (codes "syncs") (Kind.Tables Shape.Sync 0 256)
-    ∷ optional (codes "listeners") (Kind.Tables Shape.Listener 0 256)
-    ∷ required (codes "clients") (Kind.Tables Shape.Client 1 64)
+    ∷ optional (codes "rows") (Kind.Tables Shape.Row 0 MOST_ROWS)
+    ∷ optional (codes "classes") (Kind.Tables Shape.Class 0 MOST_CLASSES)
+    ∷ optional (codes "beans") (Kind.Tables Shape.Bean 0 MOST_BEANS)
+    ∷ optional (codes "methods") (Kind.Tables Shape.Method 0 MOST_METHODS)
+    ∷ optional (codes "syncs") (Kind.Tables Shape.Sync 0 MOST_SYNCS)
+    ∷ optional (codes "listeners") (Kind.Tables Shape.Listener 0 MOST_LISTENERS)
+    ∷ required (codes "clients") (Kind.Tables Shape.Client 1 MOST_CLIENTS)
     ∷ []
 
 abbrev pub keys_of : Shape → List Key
@@ -89,12 +90,12 @@ keys_of Shape.Listener =
     ∷ optional (codes "body") statements
     ∷ []
 keys_of Shape.Client =
-    required (codes "calls") (Kind.Values Leaf.Text 64)
+    required (codes "calls") (Kind.Values Leaf.Text MOST_CALLS)
     ∷ []
 keys_of Shape.Tx =
     optional (codes "propagation") (Kind.Value Leaf.PropagationWord)
     ∷ optional (codes "read_only") (Kind.Value Leaf.Flag)
-    ∷ optional (codes "rules") (Kind.Values Leaf.Rule 64)
+    ∷ optional (codes "rules") (Kind.Values Leaf.Rule MOST_RULES)
     ∷ []
 
 -- ---- single values

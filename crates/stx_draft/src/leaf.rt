@@ -8,6 +8,7 @@ ghost use Rattle.stx_draft.specs.Schema.{text_stage as text_stage_of, number_sta
 use crate::schema::Leaf;
 use stx_names::{is_class_name, is_name, mode_in, phase_in, propagation_in, rule_in, sentence_in};
 use stx_refusals::Stage;
+use stx_scenario::{MOST_CLIENTS, MOST_CONNECTIONS};
 use toml::Value;
 
 /// What is refused in a single value.
@@ -59,12 +60,18 @@ fn number_stage(leaf: Leaf, number: i64) -> Option<Stage>
     ensures { result ≡ number_stage_of leaf number }
 {
     match leaf {
-        Leaf::Pool => unless(is_within(1, 64, number), Stage::OutOfRange),
+        Leaf::Pool => unless(
+            is_within(1, i64::from(MOST_CONNECTIONS), number),
+            Stage::OutOfRange,
+        ),
         Leaf::Order => unless(
             is_within(-2_147_483_648, 2_147_483_647, number),
             Stage::OutOfRange,
         ),
-        Leaf::Client => unless(is_within(0, 63, number), Stage::OutOfRange),
+        Leaf::Client => unless(
+            is_within(0, MOST_CLIENTS as i64 - 1, number),
+            Stage::OutOfRange,
+        ),
         Leaf::RowValue => None,
         _ => Some(Stage::WrongType),
     }

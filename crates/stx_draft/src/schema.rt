@@ -2,6 +2,11 @@
 ghost use Rattle.std.specs.Prelude.{◌≡◌, map};
 ghost use Rattle.stx_draft.specs.Schema.{key_of, root_keys, keys_of};
 
+use stx_scenario::{
+    MOST_BEANS, MOST_CALLS, MOST_CLASSES, MOST_CLIENTS, MOST_EVENTS, MOST_LISTENERS, MOST_METHODS,
+    MOST_ROWS, MOST_RULES, MOST_STATEMENTS, MOST_SYNCS, MOST_TURNS,
+};
+
 /// A kind of table inside a file.
 #[derive(Clone, Copy, Debug, PartialEq, Eq)]
 pub enum Shape {
@@ -69,7 +74,7 @@ pub struct Field {
 /// The statements of a body.
 const STATEMENTS: Kind = Kind::Values {
     leaf: Leaf::Statement,
-    most: 256,
+    most: MOST_STATEMENTS,
 };
 
 static ROOT: [Field; 10] = [
@@ -78,7 +83,7 @@ static ROOT: [Field; 10] = [
         required: false,
         kind: Kind::Values {
             leaf: Leaf::Name,
-            most: 256,
+            most: MOST_EVENTS,
         },
     },
     Field {
@@ -86,7 +91,7 @@ static ROOT: [Field; 10] = [
         required: false,
         kind: Kind::Values {
             leaf: Leaf::Client,
-            most: 100_000,
+            most: MOST_TURNS,
         },
     },
     Field {
@@ -100,7 +105,7 @@ static ROOT: [Field; 10] = [
         kind: Kind::Tables {
             shape: Shape::Row,
             least: 0,
-            most: 10_000,
+            most: MOST_ROWS,
         },
     },
     Field {
@@ -109,7 +114,7 @@ static ROOT: [Field; 10] = [
         kind: Kind::Tables {
             shape: Shape::Class,
             least: 0,
-            most: 1000,
+            most: MOST_CLASSES,
         },
     },
     Field {
@@ -118,7 +123,7 @@ static ROOT: [Field; 10] = [
         kind: Kind::Tables {
             shape: Shape::Bean,
             least: 0,
-            most: 256,
+            most: MOST_BEANS,
         },
     },
     Field {
@@ -127,7 +132,7 @@ static ROOT: [Field; 10] = [
         kind: Kind::Tables {
             shape: Shape::Method,
             least: 0,
-            most: 1000,
+            most: MOST_METHODS,
         },
     },
     Field {
@@ -136,7 +141,7 @@ static ROOT: [Field; 10] = [
         kind: Kind::Tables {
             shape: Shape::Sync,
             least: 0,
-            most: 256,
+            most: MOST_SYNCS,
         },
     },
     Field {
@@ -145,7 +150,7 @@ static ROOT: [Field; 10] = [
         kind: Kind::Tables {
             shape: Shape::Listener,
             least: 0,
-            most: 256,
+            most: MOST_LISTENERS,
         },
     },
     Field {
@@ -154,7 +159,7 @@ static ROOT: [Field; 10] = [
         kind: Kind::Tables {
             shape: Shape::Client,
             least: 1,
-            most: 64,
+            most: MOST_CLIENTS,
         },
     },
 ];
@@ -310,7 +315,7 @@ static CLIENT: [Field; 1] = [Field {
     required: true,
     kind: Kind::Values {
         leaf: Leaf::Text,
-        most: 64,
+        most: MOST_CALLS,
     },
 }];
 
@@ -330,7 +335,7 @@ static TX: [Field; 3] = [
         required: false,
         kind: Kind::Values {
             leaf: Leaf::Rule,
-            most: 64,
+            most: MOST_RULES,
         },
     },
 ];

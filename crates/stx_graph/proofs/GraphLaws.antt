@@ -187,13 +187,44 @@ clients_same count f g same (calls ∷ clients) h =
     let rest = clients_same count f g same clients (All-tail (MethodsInRange count) calls clients h) in
     cc
 
-pub weight_short :
+weight_short :
     (S : Scenario) → InRange S → Short S → sum (map (client_weight (cost_within S 65)) S.clients) ≡ weight S
 weight_short S range short =
     ap sum
     (clients_same (length S.methods) (cost_within S 65) (cost S)
     (λ m below. cost_short S (short_acyclic S range short) m below (short m below))
     S.clients range.clients)
+
+-- each way is shorter than this
+abbrev pub Within : Scenario → ℕ → Type 0
+Within S levels = (m : MethodNo) → m.0 < length S.methods → longest (leads S) 65 m < levels
+
+pub within_from :
+    (S : Scenario) (rows : List (List MethodNo)) (ranks : List ℕ) (levels : ℕ) → MethodRows S rows → AreLongest rows 65 ranks
+    → All (λ rank. rank < levels) ranks → Within S levels
+within_from S rows ranks levels are found low m below =
+    let e = found_longest S rows ranks are found m below in
+    let less = low m.0 0 (let count = count_is S rows ranks are found in omega (arith, count, below)) in
+    omega (arith, e, less)
+
+-- as many levels as there are tell what the methods cost
+weight_within :
+    (S : Scenario) (levels : ℕ) → InRange S → levels ≤ 65 → Within S levels
+    → sum (map (client_weight (cost_within S levels)) S.clients) ≡ sum (map (client_weight (cost_within S 65)) S.clients)
+weight_within S levels range few within =
+    ap sum
+    (clients_same (length S.methods) (cost_within S levels) (cost_within S 65)
+    (λ m below.
+    let least = longest_more (leads S) (65 - levels) levels 65 m (omega (arith, few)) in
+    let less = within m below in
+    sym (cost_settled S (65 - levels) levels 65 m (omega (arith, few)) (omega (arith, least, less))))
+    S.clients range.clients)
+
+pub weight_of_levels :
+    (S : Scenario) (levels : ℕ) → InRange S → levels ≤ 65 → Within S levels
+    → sum (map (client_weight (cost_within S levels)) S.clients) ≡ weight S
+weight_of_levels S levels range few within =
+    weight_within S levels range few within ∙ weight_short S range (λ m below. let less = within m below in omega (arith, few, less))
 
 -- ---- what comes of it
 
@@ -281,10 +312,12 @@ due S rows ranks m GraphFault.TooLarge range are found first fault = absurd faul
 due S rows ranks m (GraphFault.NoMemory _) range are found first fault = tt
 
 -- the weight, stopped at the cap
-pub light : (S : Scenario) (w : ℕ) → InRange S → Short S → w ≡ min (sum (map (client_weight (cost_within S 65)) S.clients)) cap → w ≤ 200000 → w ≡ weight S
-light S w range short e low = let same = weight_short S range short in omega (arith, e, low, same)
+pub light :
+    (S : Scenario) (w levels : ℕ) → InRange S → levels ≤ 65 → Within S levels
+    → w ≡ min (sum (map (client_weight (cost_within S levels)) S.clients)) cap → w ≤ 200000 → w ≡ weight S
+light S w levels range few within e low = let same = weight_of_levels S levels range few within in omega (arith, e, low, same)
 
 pub heavy :
-    (S : Scenario) (w : ℕ) → InRange S → Short S → w ≡ min (sum (map (client_weight (cost_within S 65)) S.clients)) cap → 200000 < w
-    → 200000 < weight S
-heavy S w range short e high = let same = weight_short S range short in omega (arith, e, high, same)
+    (S : Scenario) (w levels : ℕ) → InRange S → levels ≤ 65 → Within S levels
+    → w ≡ min (sum (map (client_weight (cost_within S levels)) S.clients)) cap → 200000 < w → 200000 < weight S
+heavy S w levels range few within e high = let same = weight_of_levels S levels range few within in omega (arith, e, high, same)

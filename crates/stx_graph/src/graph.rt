@@ -6,7 +6,7 @@ ghost use Rattle.stx_graph.specs.Graph.{weighed, IsAccepted, IsDue};
 ghost use Rattle.stx_graph.specs.inner.Cycles.{IsDepthFault};
 
 use crate::cycles::first_on_cycle;
-use crate::ranks::{first_too_deep, longest_ways};
+use crate::ranks::{first_too_deep, levels, longest_ways};
 use crate::rows::{Rows, method_rows};
 use crate::weighing::capped_weight;
 use std::alloc::Global;
@@ -65,7 +65,8 @@ impl Graph {
         if let Some(method) = first_too_deep(ranks.as_slice()) {
             return Err(fault_of_depth(alloc, &rows, method));
         }
-        let weight = capped_weight(alloc, scenario)?;
+        let levels = levels(ranks.as_slice());
+        let weight = capped_weight(alloc, scenario, levels)?;
         if weight > GREATEST_WEIGHT {
             return Err(GraphFault::TooLarge);
         }

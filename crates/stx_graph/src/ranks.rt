@@ -11,7 +11,7 @@ use std::alloc::Global;
 use stx_scenario::{GREATEST_RANK, List, MethodNo, NoMemory};
 
 /// How many rounds tell a rank that a method may have from a greater one.
-pub(crate) const ROUNDS: u32 = GREATEST_RANK + 1;
+const ROUNDS: u32 = GREATEST_RANK + 1;
 
 /// The steps of the longest way from each method, up to one more than a method may have.
 pub(crate) fn longest_ways(alloc: Global, rows: &Rows) -> Result<List<u32>, NoMemory>
@@ -61,4 +61,17 @@ pub(crate) fn first_too_deep(ranks: &[u32]) -> Option<MethodNo>
         }
     }
     None
+}
+
+/// How many levels of calls there are: one more than the greatest rank.
+pub(crate) fn levels(ranks: &[u32]) -> u32
+    requires { All (λ rank. rank ≤ 64) ranks.now }
+    ensures few { result ≤ 65 }
+    ensures above { All (λ rank. rank < result) ranks.now }
+{
+    let mut levels = 0;
+    for rank in ranks {
+        levels = levels.max(*rank + 1);
+    }
+    levels
 }

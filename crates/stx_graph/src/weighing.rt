@@ -6,17 +6,20 @@ ghost use Rattle.stx_base.specs.Weight.{body_cost, callbacks_cost, callbacks, cl
 ghost use Rattle.stx_graph.specs.inner.Costs.{AreCosts, cap, capped, cost_at, event_cost};
 
 use crate::costs::{CAP, NOTHING, calls_cost, event_cost, method_cost, sync_cost};
-use crate::ranks::ROUNDS;
 use std::alloc::Global;
 use stx_base::Cost;
 use stx_scenario::{NoMemory, Scenario};
 
-/// The weight of a scenario in which no method has a rank over the greatest; one that is too heavy has `CAP`.
-pub(crate) fn capped_weight(alloc: Global, scenario: &Scenario) -> Result<u64, NoMemory>
+/// The weight of a scenario with calls of as many levels; one that is too heavy has `CAP`.
+pub(crate) fn capped_weight(
+    alloc: Global,
+    scenario: &Scenario,
+    levels: u32,
+) -> Result<u64, NoMemory>
     requires { InRange scenario.now }
-    ensures { IfOk result (λ weight. weight ≡ min (sum (map (client_weight (cost_within scenario.now 65)) scenario.now.clients)) cap) }
+    ensures { IfOk result (λ weight. weight ≡ min (sum (map (client_weight (cost_within scenario.now levels)) scenario.now.clients)) cap) }
 {
-    let methods = method_costs(alloc, scenario)?;
+    let methods = method_costs(alloc, scenario, levels)?;
     let mut weight: u64 = 0;
     for calls in scenario.clients.as_slice() {
         let cost = calls_cost(&methods, calls.as_slice());
@@ -33,12 +36,12 @@ fn client_weight(cost: Cost) -> u64
     (cost.size * (1 + cost.registrations)).min(CAP)
 }
 
-fn method_costs(alloc: Global, scenario: &Scenario) -> Result<Vec<Cost>, NoMemory>
+fn method_costs(alloc: Global, scenario: &Scenario, levels: u32) -> Result<Vec<Cost>, NoMemory>
     requires { InRange scenario.now }
-    ensures { IfOk result (λ costs. AreCosts scenario.now 65 costs.items) }
+    ensures { IfOk result (λ costs. AreCosts scenario.now levels costs.items) }
 {
     let mut costs = vec![in alloc; NOTHING; scenario.methods.len()]?;
-    for _round in 0..ROUNDS {
+    for _round in 0..levels {
         costs = next_round(alloc, scenario, &costs)?;
     }
     Ok(costs)

@@ -4,6 +4,7 @@ use Rattle.std.specs.Option.{option_map}
 use Rattle.std.specs.List.{find, list_any, range_with_len}
 use Rattle.stx_scenario.specs.declared.numbers.MethodNo.{MethodNo}
 use Rattle.stx_scenario.specs.declared.scenario.Scenario.{Scenario}
+use Rattle.stx_scenario.specs.declared.limits.TheConstants.{GREATEST_RANK}
 use Rattle.stx_base.specs.Weight.{Next, has_method, leads, rank, weight}
 use Rattle.stx_base.specs.Lines.{method_name}
 use Rattle.stx_refusals.specs.declared.fault.ReadFault.{ReadFault}
@@ -27,9 +28,9 @@ first_method S test = find (λ n. test (numbered n)) (range_with_len 0 (length S
 abbrev pub call_cycle : Scenario → Option ReadFault
 call_cycle S = option_map (λ n. ReadFault.CallCycle (method_name S (numbered n))) (first_method S (leads_to_itself S))
 
--- a rank over 64
+-- too deep a rank
 abbrev pub call_depth : Scenario → Option ReadFault
-call_depth S = option_map (λ n. ReadFault.CallDepth (method_name S (numbered n))) (first_method S (λ m. nat_lt 64 (rank S m)))
+call_depth S = option_map (λ n. ReadFault.CallDepth (method_name S (numbered n))) (first_method S (λ m. nat_lt GREATEST_RANK (rank S m)))
 
 -- a weight over 200,000
 abbrev pub too_large : Scenario → Option ReadFault

@@ -15,6 +15,7 @@ use Rattle.stx_scenario.specs.declared.scenario.RuleBy.{RuleBy}
 use Rattle.stx_scenario.specs.declared.scenario.SyncDecl.{SyncDecl}
 use Rattle.stx_scenario.specs.declared.scenario.Listener.{Listener}
 use Rattle.stx_scenario.specs.declared.scenario.Stmt.{Stmt}
+use Rattle.stx_scenario.specs.declared.limits.TheConstants.{MOST_BEANS, MOST_CALLS, MOST_CLASSES, MOST_CLIENTS, MOST_EVENTS, MOST_LISTENERS, MOST_METHODS, MOST_ROWS, MOST_RULES, MOST_STATEMENTS, MOST_SYNCS, MOST_TURNS}
 use Rattle.stx_base.specs.Classes.{first_own_ancestor, first_too_deep}
 use Rattle.stx_base.specs.Valid.{is_class, is_method, names_known, own_known, parent_known, first_rows, own_classes, allowed_before_commit, allowed_around, allowed_in, IsShaped}
 use Rattle.stx_base.specs.Lines.{class_name}
@@ -38,7 +39,7 @@ rule_stage S (RuleBy.Class class) = unless (is_class S class) Stage.UnknownRef
 rule_stage S (RuleBy.Pattern pattern) = unless (is_pattern pattern) Stage.BadWord
 
 abbrev pub rules_faults : Scenario → List ℕ → List Rule → List Fault
-rules_faults S path rules = count_faults 64 path (length rules) ++ each_from (λ n rule. refused (entry path n) (rule_stage S rule.by)) 0 rules
+rules_faults S path rules = count_faults MOST_RULES path (length rules) ++ each_from (λ n rule. refused (entry path n) (rule_stage S rule.by)) 0 rules
 
 abbrev pub tx_faults : Scenario → List ℕ → Option TxAttr → List Fault
 tx_faults S path None = []
@@ -47,19 +48,19 @@ tx_faults S path (Some tx) = rules_faults S (under (under path (codes "tx")) (co
 -- the statements of a method of a bean
 abbrev pub body_faults : Scenario → BeanNo → List ℕ → List Stmt → List Fault
 body_faults S bean path body =
-    count_faults 256 path (length body)
+    count_faults MOST_STATEMENTS path (length body)
     ++ each_from (λ n s. refused (entry path n) (unless (names_known S s && own_known S bean s) Stage.UnknownRef)) 0 body
 
 -- the statements of a callback
 abbrev pub callback_body_faults : Scenario → List ℕ → List Stmt → List Fault
 callback_body_faults S path body =
-    count_faults 256 path (length body)
+    count_faults MOST_STATEMENTS path (length body)
     ++ each_from (λ n s. refused (entry path n) (unless (names_known S s) Stage.UnknownRef)) 0 body
 
--- a turn is a client's, of at most 64
+-- a turn is a client's
 abbrev pub turn_faults : Scenario → ℕ → ℕ → List Fault
 turn_faults S n client =
-    refused (entry (codes "schedule") n) (unless (nat_lt client 64) Stage.OutOfRange)
+    refused (entry (codes "schedule") n) (unless (nat_lt client MOST_CLIENTS) Stage.OutOfRange)
     ++ refused (entry (codes "schedule") n) (unless (nat_lt client (length S.clients)) Stage.UnknownRef)
 
 -- a class that isn't built in
@@ -94,44 +95,44 @@ listener_faults S n listener = let path = entry (codes "listeners") n in
 
 abbrev pub client_faults : Scenario → ℕ → List MethodNo → List Fault
 client_faults S n calls = let path = under (entry (codes "clients") n) (codes "calls") in
-    count_faults 64 path (length calls)
+    count_faults MOST_CALLS path (length calls)
     ++ each_from (λ k m. refused (entry path k) (unless (is_method S m) Stage.UnknownRef)) 0 calls
 
 -- ---- all places in walk order, array by array
 
 abbrev pub events_faults : Scenario → List Fault
 events_faults S =
-    count_faults 256 (codes "events") (length S.events)
+    count_faults MOST_EVENTS (codes "events") (length S.events)
     ++ each_from (λ n name. refused (entry (codes "events") n) (unless (is_name name) Stage.BadName)) 0 S.events
 
 abbrev pub schedule_faults : Scenario → List Fault
-schedule_faults S = count_faults 100000 (codes "schedule") (length S.schedule) ++ each_from (turn_faults S) 0 S.schedule
+schedule_faults S = count_faults MOST_TURNS (codes "schedule") (length S.schedule) ++ each_from (turn_faults S) 0 S.schedule
 
 abbrev pub settings_faults : Scenario → List Fault
 settings_faults S = refused (codes "settings.pool") (unless (is_pool (pos S.settings.pool)) Stage.OutOfRange)
 
 abbrev pub rows_faults : Scenario → List Fault
 rows_faults S =
-    count_faults 10000 (codes "rows") (length S.values)
+    count_faults MOST_ROWS (codes "rows") (length S.values)
     ++ each_from (λ n name. name_faults (entry (codes "rows") n) name) 0 (first_rows S)
 
 abbrev pub classes_faults : Scenario → List Fault
-classes_faults S = count_faults 1000 (codes "classes") (length (own_classes S)) ++ each_from (class_faults S) 0 (own_classes S)
+classes_faults S = count_faults MOST_CLASSES (codes "classes") (length (own_classes S)) ++ each_from (class_faults S) 0 (own_classes S)
 
 abbrev pub beans_faults : Scenario → List Fault
-beans_faults S = count_faults 256 (codes "beans") (length S.beans) ++ each_from (bean_faults S) 0 S.beans
+beans_faults S = count_faults MOST_BEANS (codes "beans") (length S.beans) ++ each_from (bean_faults S) 0 S.beans
 
 abbrev pub methods_faults : Scenario → List Fault
-methods_faults S = count_faults 1000 (codes "methods") (length S.methods) ++ each_from (method_faults S) 0 S.methods
+methods_faults S = count_faults MOST_METHODS (codes "methods") (length S.methods) ++ each_from (method_faults S) 0 S.methods
 
 abbrev pub syncs_faults : Scenario → List Fault
-syncs_faults S = count_faults 256 (codes "syncs") (length S.syncs) ++ each_from (sync_faults S) 0 S.syncs
+syncs_faults S = count_faults MOST_SYNCS (codes "syncs") (length S.syncs) ++ each_from (sync_faults S) 0 S.syncs
 
 abbrev pub listeners_faults : Scenario → List Fault
-listeners_faults S = count_faults 256 (codes "listeners") (length S.listeners) ++ each_from (listener_faults S) 0 S.listeners
+listeners_faults S = count_faults MOST_LISTENERS (codes "listeners") (length S.listeners) ++ each_from (listener_faults S) 0 S.listeners
 
 abbrev pub clients_faults : Scenario → List Fault
-clients_faults S = refused (codes "clients") (count_stage 1 64 (length S.clients)) ++ each_from (client_faults S) 0 S.clients
+clients_faults S = refused (codes "clients") (count_stage 1 MOST_CLIENTS (length S.clients)) ++ each_from (client_faults S) 0 S.clients
 
 unfoldable pub scenario_faults : Scenario → List Fault
 scenario_faults S =

@@ -7,25 +7,11 @@ use crate::checks::{Faults, check_array, check_each};
 use crate::parts::Parts;
 use std::alloc::Global;
 use stx_refusals::{Fault, Stage, check_count, check_place};
-use stx_scenario::{ClassDecl, List, Name, NoMemory, Scenario};
-
-/// The most events, beans, synchronisations and listeners, each.
-const MOST_PARTS: usize = 256;
-
-const MOST_TURNS: usize = 100_000;
-
-const MOST_ROWS: usize = 10_000;
-
-/// The most classes that aren't built in, and the most methods.
-const MOST_DECLARED: usize = 1000;
-
-const MOST_CLIENTS: usize = 64;
-
-/// The most connections of a pool.
-const MOST_CONNECTIONS: u32 = 64;
-
-/// The number of the first class that isn't built in.
-const FIRST_OWN: usize = 17;
+use stx_scenario::{
+    BUILT_IN_CLASSES, ClassDecl, List, MOST_BEANS, MOST_CLASSES, MOST_CLIENTS, MOST_CONNECTIONS,
+    MOST_EVENTS, MOST_LISTENERS, MOST_METHODS, MOST_ROWS, MOST_SYNCS, MOST_TURNS, Name, NoMemory,
+    Scenario,
+};
 
 /// What the stages on single places refuse in a scenario, in walk order.
 #[tactic(auto, unfolding(crate::specs::Judge::scenario_faults))]
@@ -46,13 +32,13 @@ fn first_faults(faults: &mut Faults, parts: &Parts) -> Result<(), NoMemory>
     let alloc = parts.alloc;
     let events = parts.place("events");
     let names = parts.scenario.events.as_slice();
-    check_array(alloc, faults, events.path, MOST_PARTS, &events, names)?;
+    check_array(alloc, faults, events.path, MOST_EVENTS, &events, names)?;
     let schedule = parts.scenario.schedule.as_slice();
     check_array(alloc, faults, "schedule", MOST_TURNS, parts, schedule)?;
     settings_faults(faults, parts)?;
     rows_faults(faults, parts)?;
     let classes = own_classes(parts.scenario);
-    check_array(alloc, faults, "classes", MOST_DECLARED, parts, classes)
+    check_array(alloc, faults, "classes", MOST_CLASSES, parts, classes)
 }
 
 // From the beans on.
@@ -61,13 +47,13 @@ fn last_faults(faults: &mut Faults, parts: &Parts) -> Result<(), NoMemory>
 {
     let alloc = parts.alloc;
     let beans = parts.scenario.beans.as_slice();
-    check_array(alloc, faults, "beans", MOST_PARTS, parts, beans)?;
+    check_array(alloc, faults, "beans", MOST_BEANS, parts, beans)?;
     let methods = parts.scenario.methods.as_slice();
-    check_array(alloc, faults, "methods", MOST_DECLARED, parts, methods)?;
+    check_array(alloc, faults, "methods", MOST_METHODS, parts, methods)?;
     let syncs = parts.scenario.syncs.as_slice();
-    check_array(alloc, faults, "syncs", MOST_PARTS, parts, syncs)?;
+    check_array(alloc, faults, "syncs", MOST_SYNCS, parts, syncs)?;
     let listeners = parts.scenario.listeners.as_slice();
-    check_array(alloc, faults, "listeners", MOST_PARTS, parts, listeners)?;
+    check_array(alloc, faults, "listeners", MOST_LISTENERS, parts, listeners)?;
     clients_faults(faults, parts)
 }
 
@@ -116,8 +102,8 @@ fn own_classes(scenario: &Scenario) -> &[ClassDecl]
     ensures { result.now ≡ own_classes scenario.now }
 {
     let classes = scenario.classes.as_slice();
-    if classes.len() <= FIRST_OWN {
+    if classes.len() <= BUILT_IN_CLASSES {
         return &[];
     }
-    &classes[FIRST_OWN..]
+    &classes[BUILT_IN_CLASSES..]
 }

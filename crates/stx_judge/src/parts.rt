@@ -9,13 +9,10 @@ use crate::tables::Place;
 use std::alloc::Global;
 use stx_names::{is_class_name, is_name};
 use stx_refusals::{Stage, entry, refuse, under};
-use stx_scenario::{Bean, Calls, ClassDecl, Listener, Method, Name, NoMemory, Scenario, SyncDecl};
-
-/// The most clients, and one more than the greatest number of a client.
-const MOST_CLIENTS: u32 = 64;
-
-/// The most calls of a client.
-const MOST_CALLS: usize = 64;
+use stx_scenario::{
+    Bean, Calls, ClassDecl, Listener, MOST_CALLS, MOST_CLIENTS, Method, Name, NoMemory, Scenario,
+    SyncDecl,
+};
 
 /// The parts of a scenario, and where paths take their memory.
 #[derive(Drop)]
@@ -58,7 +55,7 @@ impl<'a> Checks<u32> for Parts<'a> {
 
     fn check(&self, faults: &mut Faults, at: usize, client: &u32) -> Result<(), NoMemory> {
         let schedule = self.place("schedule");
-        let passed = *client < MOST_CLIENTS;
+        let passed = (*client as usize) < MOST_CLIENTS;
         schedule.check_entry(faults, at, passed, Stage::OutOfRange)?;
         let passed = (*client as usize) < self.scenario.clients.len();
         schedule.check_entry(faults, at, passed, Stage::UnknownRef)

@@ -11,13 +11,10 @@ use crate::references::{is_class, is_method, names_known, own_known};
 use std::alloc::Global;
 use stx_names::{is_name, is_pattern};
 use stx_refusals::{Stage, check_entry, check_key, under};
-use stx_scenario::{BeanNo, List, MethodNo, Name, NoMemory, Rule, RuleBy, Scenario, Stmt, TxAttr};
-
-/// The most statements of a body.
-const MOST_STATEMENTS: usize = 256;
-
-/// The most rules of an attribute.
-const MOST_RULES: usize = 64;
+use stx_scenario::{
+    BeanNo, List, MOST_RULES, MOST_STATEMENTS, MethodNo, Name, NoMemory, Rule, RuleBy, Scenario,
+    Stmt, TxAttr,
+};
 
 /// A table or an array of a scenario, by its path, and where paths take their memory.
 #[derive(Drop)]

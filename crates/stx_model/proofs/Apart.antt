@@ -23,7 +23,7 @@ use Rattle.stx_model.specs.Meanings.{State, Result, Over, Stops, Breaks, Meaning
 use Rattle.stx_model.specs.Opening.{opening, opening_in, opening_without, opening_within, owns_fresh}
 use Rattle.stx_model.specs.Rounds.{Calls, round_of, stopping_round}
 use Rattle.stx_model.specs.Scopes.{Scope, say_each, say_bind, say_unbind, suspended, resume, resumed, live_in, later_or, rolls, ruled, is_set, fresh_context, acts, completes, ends, in_scope, begins, opens, intercepted}
-use Rattle.stx_model.specs.Assurances.{AtEnd, joined_lines, JoinedScopesOnlyMark, RequiresNewStandsApart}
+use Rattle.stx_model.specs.Assurances.{AtEnd, OnlyMarks, JoinedScopesOnlyMark, RequiresNewStandsApart}
 
 -- ---- what holds at each end holds after pieces that go on
 
@@ -33,7 +33,7 @@ finally_at_end P (Over x st) next then = then x st
 finally_at_end P (Stops w st) next then = tt
 finally_at_end P (Breaks st) next then = tt
 
-either_at_end : (P : Option ClassNo → State → Type 0) (b : Bool) (first second : Result) → AtEnd first P → AtEnd second P
+pub either_at_end : (P : Option ClassNo → State → Type 0) (b : Bool) (first second : Result) → AtEnd first P → AtEnd second P
     → AtEnd (elim b [ true ↦ first | false ↦ second ]) P
 either_at_end P true first second one other = one
 either_at_end P false first second one other = other
@@ -228,7 +228,7 @@ module _ (S : Scenario) (calls : Calls) (m : MethodNo) (a : TxAttr) (run : Meani
   begins_apart owns None st =
       (resume_gives older st, (say_each_keeps Line.Resume (ordered_labels older.syncs) (say_bind older.tx (with_context older st))).1 ∙ bind_local older.tx (with_context older st))
 
-suspended_local : (suspends : Bool) (st : State) → (suspended suspends st).local ≡ st.local
+pub suspended_local : (suspends : Bool) (st : State) → (suspended suspends st).local ≡ st.local
 suspended_local false st = refl
 suspended_local true st = unbind_local st.context.tx (say_each Line.Suspend (ordered_labels st.context.syncs) st) ∙ (say_each_keeps Line.Suspend (ordered_labels st.context.syncs) st).1
   where
@@ -264,18 +264,23 @@ requires_new_stands_apart S calls m a run st is =
 
 -- ---- a joined scope
 
+module _ (S : Scenario) (calls : Calls) (scope : Scope) (x : Option ClassNo) (st : State) where
+  abbrev AsKind : Ending → Kind → Type 0
+  AsKind e k =
+      (after : State) × (elim (has_before_commit k e) [
+        | true ↦ finally (round_of scope.owns (stopping_round S calls Round.BeforeCommit) st) (λ y. acts S calls scope (completion_after k e y) (later_or y x))
+        | false ↦ acts S calls scope (completion k e) x st
+      ] ≡ Over x after) × OnlyMarks scope e x st after
+
+  marked_then_left : (st.lines ++ Line.MarkGlobal ∷ []) ++ Line.Leave scope.method x ∷ [] ≡ st.lines ++ (Line.MarkGlobal ∷ [] ++ Line.Leave scope.method x ∷ [])
+  marked_then_left = append_assoc st.lines (Line.MarkGlobal ∷ []) (Line.Leave scope.method x ∷ [])
+
+  completes_joined : (e : Ending) → AsKind e Kind.Join
+  unfolding acts completion
+  completes_joined Ending.Commit = (_, refl, record { lines = refl; context = refl; local = refl; pool = refl; store = refl })
+  completes_joined Ending.Rollback = (_, refl, record { lines = marked_then_left; context = refl; local = refl; pool = refl; store = refl })
+  completes_joined Ending.Unexpected = (_, refl, record { lines = marked_then_left; context = refl; local = refl; pool = refl; store = refl })
+
 pub joined_scopes_only_mark : JoinedScopesOnlyMark
-unfolding completes acts completion
-joined_scopes_only_mark S calls scope e x st joins =
-    subst (λ k. AtEnd (elim (has_before_commit k e) [
-      | true ↦ finally (round_of scope.owns (stopping_round S calls Round.BeforeCommit) st) (λ y. acts S calls scope (completion_after k e y) (later_or y x))
-      | false ↦ acts S calls scope (completion k e) x st
-    ]) (λ y after. (y ≡ x) × (after.lines ≡ st.lines ++ (joined_lines e ++ Line.Leave scope.method x ∷ [])))) (sym joins) (by e)
-  where
-    by : (e : Ending) → AtEnd (elim (has_before_commit Kind.Join e) [
-      | true ↦ finally (round_of scope.owns (stopping_round S calls Round.BeforeCommit) st) (λ y. acts S calls scope (completion_after Kind.Join e y) (later_or y x))
-      | false ↦ acts S calls scope (completion Kind.Join e) x st
-    ]) (λ y after. (y ≡ x) × (after.lines ≡ st.lines ++ (joined_lines e ++ Line.Leave scope.method x ∷ [])))
-    by Ending.Commit = (refl, refl)
-    by Ending.Rollback = (refl, append_assoc st.lines (Line.MarkGlobal ∷ []) (Line.Leave scope.method x ∷ []))
-    by Ending.Unexpected = (refl, append_assoc st.lines (Line.MarkGlobal ∷ []) (Line.Leave scope.method x ∷ []))
+unfolding completes
+joined_scopes_only_mark S calls scope e x st joins = subst (AsKind S calls scope x st e) (sym joins) (completes_joined S calls scope x st e)

@@ -21,16 +21,17 @@ use Rattle.stx_base.specs.declared.manager.Round.{Round}
 use Rattle.stx_base.specs.Attributes.{attribute}
 use Rattle.stx_base.specs.Weight.{body_of, rank}
 use Rattle.stx_model.specs.Contexts.{Context, Live, bare, Registration, is_active, is_live, registered, ordered, with_mark, marked_globally, with_global_mark, without_syncs}
-use Rattle.stx_model.specs.Ending.{Action, RoundAfterCommit, RoundAfterCompletion, Resumption, BackToPoint, ReleasePoint, ThrowUnexpected, completion, completion_after, has_before_commit, ending, is_marked}
+use Rattle.stx_model.specs.Ending.{Action, RoundBeforeCompletion, RoundAfterCommit, RoundAfterCompletion, CommitStore, RollbackStore, BackToPoint, ReleasePoint, MarkGlobally, ThrowUnexpected, GiveBack, Resumption, completion, completion_after, has_before_commit, ending, is_marked}
 use Rattle.stx_model.specs.Listeners.{Deed, Register, RunNow, Skip, deeds}
+use Rattle.stx_base.specs.declared.history.Note.{Note}
 use Rattle.stx_model.specs.Meanings.{State, Result, Over, Stops, Breaks, Meaning, finally, say, with_context, with_local, hear, ask}
 use Rattle.stx_model.specs.Opening.{opening, opening_within, opening_without, owns_empty}
 use Rattle.stx_model.specs.Statements.{caught, register_listener}
 use Rattle.stx_model.specs.Rounds.{Calls, Proxied, Direct, listens, swallowing_round, stopping_round, round_of}
-use Rattle.stx_model.specs.Scopes.{Scope, leaves, later_or, rolls, ruled, is_set, started_syncs, acts, completes, ends, in_scope, within, opens, intercepted}
+use Rattle.stx_model.specs.Scopes.{Scope, leaves, later_or, rolls, ruled, is_set, started_syncs, acts, completes, ends, in_scope, suspended, live_in, within, opens, intercepted}
 use Rattle.stx_model.specs.Script.{deals, statement, body, unscoped, proxied, invoked, calls_below}
 use Rattle.stx_model.specs.Assurances.{AtEnd, IsSameTransaction, MayBeMarked, IsKept, IsOnlyExtended, LeavesContext, CallsLeaveTheContext}
-use Rattle.stx_model.proofs.Apart.{Apart, finally_at_end, ask_at_end, live_at_end, hear_keeps, fresh_stands_apart, completes_empty}
+use Rattle.stx_model.proofs.Apart.{Apart, either_at_end, suspended_local, finally_at_end, ask_at_end, live_at_end, hear_keeps, fresh_stands_apart, completes_empty}
 use Rattle.stx_model.proofs.Keeping.{kept_refl, HasKept, Keeps, finally_keeps, and_then_keeps, either_keeps, CallsKeep, callback_statement_keeps, listens_keeps, caught_keeps, marks_keeps, registers_keeps, round_of_keeps, swallowing_round_keeps, stopping_round_keeps}
 
 -- ---- a piece after a piece
@@ -476,7 +477,84 @@ calls_keep S (suc bound) way m st =
     either_keeps st.context (rank S m == bound) (invoked S (calls_below S bound) way m st) (calls_below S bound way m st)
     (invoked_keeps S (calls_below S bound) (calls_keep S bound) way m st) (calls_keep S bound way m st)
 
+-- ---- the local mark of the scope round a call
+
+module _ (S : Scenario) (calls : Calls) (scope : Scope) where
+  abbrev HasOuter : Option ClassNo → State → Type 0
+  HasOuter x after = after.local ≡ scope.outer
+
+  goes_on : (r : Result) (next : Option ClassNo → Meaning) → ((y : Option ClassNo) (after : State) → AtEnd (next y after) HasOuter) → AtEnd (finally r next) HasOuter
+  goes_on r next then = finally_at_end HasOuter r next then
+
+  asks : (want : Live → Want) (next : Note → Meaning) (st : State) → ((n : Note) (after : State) → AtEnd (next n after) HasOuter)
+      → AtEnd (live_in st.context.tx (λ live. ask (want live) next) st) HasOuter
+  asks want next st then =
+      live_at_end HasOuter st.context.tx (λ live. ask (want live) next) st (λ live. ask_at_end HasOuter (want live) next st (λ n. then n (hear n st)))
+
+  acts_outer : (actions : List Action) (x : Option ClassNo) (st : State) → AtEnd (acts S calls scope actions x st) HasOuter
+  unfolding acts
+  acts_outer [] x st = refl
+  acts_outer (RoundBeforeCompletion ∷ rest) x st = goes_on _ (λ _. acts S calls scope rest x) (λ y after. acts_outer rest x after)
+  acts_outer (RoundAfterCommit ∷ rest) x st = goes_on _ (λ y. acts S calls scope rest (later_or y x)) (λ y after. acts_outer rest (later_or y x) after)
+  acts_outer (RoundAfterCompletion committed ∷ rest) x st = goes_on _ (λ _. acts S calls scope rest x) (λ y after. acts_outer rest x after)
+  acts_outer (CommitStore ∷ rest) x st = asks (λ live. Want.Commit live.transaction) (λ _. acts S calls scope rest x) st (λ n after. acts_outer rest x after)
+  acts_outer (RollbackStore ∷ rest) x st = asks (λ live. Want.Rollback live.transaction) (λ _. acts S calls scope rest x) st (λ n after. acts_outer rest x after)
+  acts_outer (BackToPoint ∷ rest) x st =
+      asks (λ live. Want.BackTo live.transaction) (λ _ back. acts S calls scope rest x (with_context (with_global_mark false back.context) back)) st
+      (λ n after. acts_outer rest x (with_context (with_global_mark false after.context) after))
+  acts_outer (ReleasePoint ∷ rest) x st = asks (λ live. Want.Release live.transaction) (λ _. acts S calls scope rest x) st (λ n after. acts_outer rest x after)
+  acts_outer (MarkGlobally ∷ rest) x st = acts_outer rest x _
+  acts_outer (ThrowUnexpected ∷ rest) x st = acts_outer rest _ _
+  acts_outer (GiveBack ∷ rest) x st = asks (λ live. Want.Give live.connection) (λ _. acts S calls scope rest x) st (λ n after. acts_outer rest x after)
+  acts_outer (Resumption ∷ rest) x st = acts_outer rest x _
+
+  completes_outer : (e : Ending) (x : Option ClassNo) (st : State) → AtEnd (completes S calls scope e x st) HasOuter
+  unfolding completes
+  completes_outer e x st =
+      let next : Option ClassNo → Meaning = λ y. acts S calls scope (completion_after scope.kind e y) (later_or y x) in
+      either_at_end HasOuter (has_before_commit scope.kind e) (finally (round_of scope.owns (stopping_round S calls Round.BeforeCommit) st) next)
+      (acts S calls scope (completion scope.kind e) x st)
+      (goes_on (round_of scope.owns (stopping_round S calls Round.BeforeCommit) st) next (λ y after. acts_outer (completion_after scope.kind e y) (later_or y x) after))
+      (acts_outer (completion scope.kind e) x st)
+
+  in_scope_outer : (a : TxAttr) (run : Meaning) (st : State) → AtEnd (in_scope S calls scope a run st) HasOuter
+  unfolding in_scope ends
+  in_scope_outer a run st =
+      goes_on (run (with_local (Some false) (say (Line.Opened scope.kind scope.owns) st))) (ends S calls scope a) (λ x after. completes_outer _ x _)
+
+module _ (S : Scenario) (calls : Calls) (m : MethodNo) (a : TxAttr) (run : Meaning) where
+  abbrev HasLocal : Option Bool → Option ClassNo → State → Type 0
+  HasLocal local x after = after.local ≡ local
+
+  opens_outer : (o : Opening) (st : State) → AtEnd (opens S calls m a run o st) (HasLocal st.local)
+  unfolding opens
+  opens_outer (Opening.Refuse x) st = refl
+  opens_outer (Opening.Fresh suspends owns) st =
+      weaker (Apart st.context st.local) (HasLocal st.local) (opens S calls m a run (Opening.Fresh suspends owns) st) (λ x after apart. apart.1)
+      (fresh_stands_apart S calls m a run suspends owns st)
+  opens_outer Opening.Join st = in_scope_outer S calls (record { method = m; kind = Kind.Join; owns = false; older = None; outer = st.local }) a run st
+  opens_outer Opening.Point st =
+      live_at_end (HasLocal st.local) st.context.tx (λ live. ask (Want.Point live.transaction) (λ _. within S calls m Kind.Point a run)) st
+      (λ live. ask_at_end (HasLocal st.local) (Want.Point live.transaction) (λ _. within S calls m Kind.Point a run) st
+      (λ n. subst (λ l. AtEnd (within S calls m Kind.Point a run (hear n st)) (HasLocal l)) (hear_keeps n st).1
+      (in_scope_outer S calls (record { method = m; kind = Kind.Point; owns = false; older = None; outer = (hear n st).local }) a run (hear n st))))
+  opens_outer (Opening.Empty suspends owns) st =
+      subst (λ l. AtEnd (opens S calls m a run (Opening.Empty suspends owns) st) (HasLocal l)) (suspended_local suspends st)
+      (in_scope_outer S calls (record { method = m; kind = Kind.Empty; owns = owns; older = _; outer = (suspended suspends st).local }) a run _)
+
+  intercepted_outer : (st : State) → AtEnd (intercepted S calls m a run st) (HasLocal st.local)
+  unfolding intercepted
+  intercepted_outer st = opens_outer (opening S.settings a st.context) (say (Line.Call m a.propagation a.read_only) st)
+
+both_at_end : (P Q : Option ClassNo → State → Type 0) (r : Result) → AtEnd r P → AtEnd r Q → AtEnd r (λ x st. P x st × Q x st)
+both_at_end P Q (Over x st) one other = (one, other)
+both_at_end P Q (Stops w st) one other = tt
+both_at_end P Q (Breaks st) one other = tt
+
 pub calls_leave_the_context : CallsLeaveTheContext
 calls_leave_the_context S bound m a st =
-    intercepted_leaves S (calls_below S bound) (calls_keep S bound) m a (body S (calls_below S bound) (body_of S m))
-    (body_keeps S (calls_below S bound) (calls_keep S bound) (body_of S m)) st
+    let run : Meaning = body S (calls_below S bound) (body_of S m) in
+    both_at_end (λ x after. LeavesContext (opening S.settings a st.context) st.context after.context) (λ x after. after.local ≡ st.local)
+    (intercepted S (calls_below S bound) m a run st)
+    (intercepted_leaves S (calls_below S bound) (calls_keep S bound) m a run (body_keeps S (calls_below S bound) (calls_keep S bound) (body_of S m)) st)
+    (intercepted_outer S (calls_below S bound) m a run st)

@@ -16,6 +16,7 @@ pub mod PlainRows
 pub mod FlatRows
 pub mod ShopRow
 pub mod NoteRows
+pub mod ReadsRows
 pub mod ReportRows
 pub mod SerialRows
 pub mod SerialCounterexample
@@ -49,3 +50,4 @@ pub mod Breaks
 pub mod BreaksPieces
 pub mod CallableLaw
 pub mod BreaksLaw
+pub mod Sorting

@@ -252,7 +252,7 @@ module _ (S : Scenario) (calls : Calls) (calls_steady : AreSteady calls) where
 
   -- ---- completion
 
-  acts_steady : (scope : Scope) (actions : List Action) (x : Option ClassNo) → IsSteady (acts S calls scope actions x)
+  pub acts_steady : (scope : Scope) (actions : List Action) (x : Option ClassNo) → IsSteady (acts S calls scope actions x)
   unfolding acts
   acts_steady scope [] x st = leaves_steady scope.method x (with_local scope.outer st)
   acts_steady scope (RoundBeforeCompletion ∷ rest) x st =

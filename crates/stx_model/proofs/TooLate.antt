@@ -1,5 +1,5 @@
 -- An exception of an after_commit callback comes too late.
-use Rattle.std.proofs.Common.{◌≡◌, ℕ, true, false, List, [], ◌∷◌, Option, Some, None, refl, ap, ◌∙◌}
+use Rattle.std.proofs.Common.{◌≡◌, ℕ, true, false, List, [], ◌∷◌, Option, Some, None, refl, sym, ap, ◌∙◌, subst}
 use Rattle.std.specs.Prelude.{slice_get, ◌==◌}
 use Rattle.std.specs.Option.{option_map}
 use Rattle.std.proofs.lemmas.Bool.{eq-eqb}
@@ -13,11 +13,14 @@ use Rattle.stx_base.specs.declared.manager.Round.{Round}
 use Rattle.stx_model.specs.Contexts.{Live}
 use Rattle.stx_model.specs.Ending.{Action, RoundBeforeCompletion, CommitStore, RoundAfterCommit, RoundAfterCompletion, GiveBack, Resumption, completion, completion_after, has_before_commit}
 use Rattle.stx_base.specs.declared.history.Note.{Note}
-use Rattle.stx_model.specs.Meanings.{State, Result, Over, Breaks, finally, hear, ask, answered}
+use Rattle.stx_model.specs.Meanings.{State, Result, Over, Breaks, state_of, finally, hear, ask, answered}
 use Rattle.stx_model.specs.Rounds.{Calls, round_of, last_round, stopping_round, swallowing_round}
 use Rattle.stx_model.specs.Scopes.{Scope, live_in, later_or, acts, completes}
-use Rattle.stx_model.specs.Assurances.{AfterCommitComesTooLate, AfterCommitThrowsToTheCaller}
+use Rattle.stx_model.specs.Reads.{StartsWith}
+use Rattle.stx_model.specs.Script.{calls_below}
+use Rattle.stx_model.specs.Assurances.{AfterCommitComesTooLate, AfterCommitThrowsToTheCaller, CommittedStaysSaid}
 use Rattle.stx_model.proofs.Apart.{finally_at_end, live_at_end, ask_at_end}
+use Rattle.stx_model.proofs.SteadyPieces.{acts_steady, calls_below_steady}
 
 same_number : (t : ℕ) → (t == t) ≡ true
 same_number t = eq-eqb t t refl
@@ -77,3 +80,14 @@ after_commit_throws_to_the_caller S calls scope y after =
     finally_at_end (λ x end. x ≡ Some y) (last_round S calls scope.owns true after) (λ _. acts S calls scope (GiveBack ∷ Resumption ∷ []) (Some y))
     (λ w st. live_at_end (λ x end. x ≡ Some y) st.context.tx (λ live. ask (Want.Give live.connection) (λ _. acts S calls scope (Resumption ∷ []) (Some y))) st
     (λ live. ask_at_end (λ x end. x ≡ Some y) (Want.Give live.connection) (λ _. acts S calls scope (Resumption ∷ []) (Some y)) st (λ n. refl)))
+
+-- what the actions after the commit do comes after its line
+pub committed_stays_said : CommittedStaysSaid
+committed_stays_said S bound scope x z live number st before completed fresh went swallowed is_live noted =
+    let calls : Calls = calls_below S bound in
+    let heard : State = hear (Note.Store (StoreNote.Commit live.transaction number)) completed in
+    let is = fresh_commits S calls scope x st before fresh went
+    ∙ swallowed_goes_on S calls scope (CommitStore ∷ after_the_commit S calls scope) x z before completed swallowed
+    ∙ store_commits S calls scope (after_the_commit S calls scope) x completed live number is_live noted in
+    subst (λ r. StartsWith (state_of r).lines heard.lines) (sym is)
+    (acts_steady S calls (calls_below_steady S bound) scope (after_the_commit S calls scope) x heard).0.0

@@ -8,6 +8,7 @@ use Rattle.stx_model.proofs.ListenerRows.{an_after_commit_listener_runs_after_co
 use Rattle.stx_model.proofs.PlainRows.{a_call_of_the_same_bean_is_not_intercepted}
 use Rattle.stx_model.proofs.FlatRows.{a_transaction_writes_reads_and_commits}
 use Rattle.stx_model.proofs.NoteRows.{a_fresh_scope_first_wants_a_connection}
+use Rattle.stx_model.proofs.ReadsRows.{law_applies}
 use Rattle.stx_model.proofs.ShopRow.{an_order_is_placed}
 use Rattle.stx_model.proofs.ReportRows.{one_method_printed}
 use Rattle.stx_model.proofs.SerialRows.{kept_locks_serial}
@@ -24,6 +25,7 @@ rows_compute =
     let plain = a_call_of_the_same_bean_is_not_intercepted in
     let flat = a_transaction_writes_reads_and_commits in
     let notes = a_fresh_scope_first_wants_a_connection in
+    let reads = law_applies in
     let shop = an_order_is_placed in
     let reports = one_method_printed in
     let serial = kept_locks_serial in

@@ -11,10 +11,11 @@ use Rattle.stx_base.specs.declared.manager.Kind.{Kind}
 use Rattle.stx_base.specs.declared.manager.Opening.{Opening}
 use Rattle.stx_base.specs.declared.manager.Ending.{Ending}
 use Rattle.stx_base.specs.declared.manager.Round.{Round}
-use Rattle.stx_model.specs.Contexts.{Context, Live, Registration}
+use Rattle.stx_model.specs.Contexts.{Context, Live, Registration, with_global_mark}
 use Rattle.stx_model.specs.Ending.{GiveBack, Resumption}
 use Rattle.stx_base.specs.declared.history.Note.{Note}
-use Rattle.stx_model.specs.Meanings.{State, Result, Over, Meaning, finally, hear}
+use Rattle.stx_model.specs.Meanings.{State, Result, Over, Meaning, state_of, finally, hear}
+use Rattle.stx_model.specs.Reads.{StartsWith}
 use Rattle.stx_model.specs.Rounds.{Calls, round_of, last_round, stopping_round, swallowing_round}
 use Rattle.stx_base.specs.Weight.{body_of}
 use Rattle.stx_model.specs.Opening.{opening}
@@ -32,12 +33,26 @@ abbrev pub joined_lines : Ending → List Line
 joined_lines Ending.Commit = []
 joined_lines _ = Line.MarkGlobal ∷ []
 
--- between its End line and its Leave line a joined scope says nothing but that it marks the transaction, and that only
--- where its ending isn't commit; it throws nothing of its own
+-- the transaction is marked where the ending isn't commit, and nothing else is changed
+abbrev pub joined_context : Ending → Context → Context
+joined_context Ending.Commit context = context
+joined_context _ context = with_global_mark true context
+
+-- what the completion of a joined scope leaves: these lines more, the mark, the local mark of the scope round it, and no
+-- note read
+pub record OnlyMarks (scope : Scope) (e : Ending) (x : Option ClassNo) (st after : State) : Type 0 where
+  pub lines : after.lines ≡ st.lines ++ (joined_lines e ++ Line.Leave scope.method x ∷ [])
+  pub context : after.context ≡ joined_context e st.context
+  pub local : after.local ≡ scope.outer
+  pub pool : after.pool ≡ st.pool
+  pub store : after.store ≡ st.store
+
+-- the completion of a joined scope is always over, with what its body threw: between its End line and its Leave line it
+-- says nothing but that it marks the transaction, and it marks it only where its ending isn't commit
 abbrev pub JoinedScopesOnlyMark : Type 0
 JoinedScopesOnlyMark =
     (S : Scenario) (calls : Calls) (scope : Scope) (e : Ending) (x : Option ClassNo) (st : State) → scope.kind ≡ Kind.Join
-    → AtEnd (completes S calls scope e x st) (λ y after. (y ≡ x) × (after.lines ≡ st.lines ++ (joined_lines e ++ Line.Leave scope.method x ∷ [])))
+    → (after : State) × (completes S calls scope e x st ≡ Over x after) × OnlyMarks scope e x st after
 
 -- ---- requires_new
 
@@ -70,6 +85,18 @@ abbrev pub AfterCommitThrowsToTheCaller : Type 0
 AfterCommitThrowsToTheCaller =
     (S : Scenario) (calls : Calls) (scope : Scope) (y : ClassNo) (after : State)
     → AtEnd (finally (last_round S calls scope.owns true after) (λ _. acts S calls scope (GiveBack ∷ Resumption ∷ []) (Some y))) (λ x end. x ≡ Some y)
+
+-- a commit stays said: where the rounds before the store's commit ended and the store committed, the lines of the
+-- completion, whatever its end, begin with those before the commit and the line of the commit
+abbrev pub CommittedStaysSaid : Type 0
+CommittedStaysSaid =
+    (S : Scenario) (bound : ℕ) (scope : Scope) (x z : Option ClassNo) (live : Live) (number : ℕ) (st before completed : State)
+    → scope.kind ≡ Kind.Fresh
+    → round_of scope.owns (stopping_round S (calls_below S bound) Round.BeforeCommit) st ≡ Over None before
+    → round_of scope.owns (swallowing_round S (calls_below S bound) Round.BeforeCompletion false) before ≡ Over z completed
+    → completed.context.tx ≡ Some live
+    → slice_get completed.store 0 ≡ Some (StoreNote.Commit live.transaction number)
+    → StartsWith (state_of (completes S (calls_below S bound) scope Ending.Commit x st)).lines (completed.lines ++ Line.Commit live.transaction number ∷ [])
 
 -- ---- contexts
 
@@ -107,9 +134,10 @@ LeavesContext Opening.Point before after = IsOnlyExtended before after
 LeavesContext (Opening.Empty false false) before after = IsOnlyExtended before after
 LeavesContext _ before after = after ≡ before
 
--- after a call of a method with an attribute, however it ends, the context is the one before it, but for that
+-- after a call of a method with an attribute, however it ends, the context is the one before it, but for that, and the
+-- scope round it has the local mark that it had
 abbrev pub CallsLeaveTheContext : Type 0
 CallsLeaveTheContext =
     (S : Scenario) (bound : ℕ) (m : MethodNo) (a : TxAttr) (st : State)
     → AtEnd (intercepted S (calls_below S bound) m a (body S (calls_below S bound) (body_of S m)) st)
-    (λ x after. LeavesContext (opening S.settings a st.context) st.context after.context)
+    (λ x after. LeavesContext (opening S.settings a st.context) st.context after.context × (after.local ≡ st.local))

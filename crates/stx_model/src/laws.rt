@@ -1,6 +1,6 @@
 // The laws of the definitions, each carried by the contract of a function that does nothing.
 ghost use Rattle.stx_model.specs.Laws.{AnswersAreRead, Balanced, BreaksAtWrongNotes, DoneIsFaithful, EntriesWithin, GivesAllBack, JournalIsSerial, OwnNotesFresh, ReadsInOrder, ReadsWithin, SaysWithin, ScriptsGrow, WantsProper};
-ghost use Rattle.stx_model.specs.Assurances.{AfterCommitComesTooLate, AfterCommitThrowsToTheCaller, CallsLeaveTheContext, JoinedScopesOnlyMark, RequiresNewStandsApart};
+ghost use Rattle.stx_model.specs.Assurances.{AfterCommitComesTooLate, AfterCommitThrowsToTheCaller, CallsLeaveTheContext, CommittedStaysSaid, JoinedScopesOnlyMark, RequiresNewStandsApart};
 
 /// The store's journal is a serial order. Take any legal history of the store, and run the committed transactions and
 /// the own statements alone, one after the other, in the order of the journal: each finds exactly the answers that it
@@ -35,8 +35,9 @@ pub fn own_notes_fresh()
 {}
 
 /// A joined scope only marks. Between its `end` line and its `leave` line a scope that takes part in the transaction of
-/// another says nothing but that it marks it for rollback, and that only where its ending isn't commit; it throws nothing
-/// of its own, and leaves with what its body threw (`AbstractPlatformTransactionManager.processRollback`,
+/// another says nothing but that it marks it for rollback, and that only where its ending isn't commit. Its completion
+/// reads no note and is always over: it throws nothing of its own, leaves with what its body threw, and changes nothing
+/// of the context but that mark (`AbstractPlatformTransactionManager.processRollback`,
 /// `setGlobalRollbackOnParticipationFailure`).
 pub fn joined_scopes_only_mark()
     ensures { JoinedScopesOnlyMark }
@@ -61,10 +62,17 @@ pub fn after_commit_throws_to_the_caller()
     ensures { AfterCommitThrowsToTheCaller }
 {}
 
+/// A commit stays said. Where the rounds before the store's commit ended and the store committed, the lines of the
+/// scope's completion, whatever its end, begin with those before the commit and the line of the commit: whatever a
+/// callback throws, what is said of it comes after.
+pub fn committed_stays_said()
+    ensures { CommittedStaysSaid }
+{}
+
 /// Calls leave the context as it was. After a call of a method with an attribute, however it ends, the connection, the
 /// transaction, its mark and the registrations are those before it, but that a joined scope may have marked the
 /// transaction, and that a joined scope, a savepoint (also one that went back) and an empty scope that owns no
-/// synchronisation may have added registrations at the end.
+/// synchronisation may have added registrations at the end. The scope round it has the local mark that it had.
 pub fn calls_leave_the_context()
     ensures { CallsLeaveTheContext }
 {}

@@ -1,5 +1,6 @@
 -- Whole numbers as a statement writes them, and the ranges of those that a document has.
-use Rattle.std.specs.Prelude.{ℕ, ◌^◌, ℤ, pos, negsuc, int_le, nat_lt, Bool, false, not, ◌&&◌, ◌||◌, ◌==◌, if◌then◌else◌, List, [], ◌∷◌, codes, Option, Some, None}
+use Rattle.std.specs.Prelude.{ℕ, ◌-◌, ◌^◌, ℤ, pos, negsuc, int_le, nat_lt, Bool, false, not, ◌&&◌, ◌||◌, ◌==◌, if◌then◌else◌, List, [], ◌∷◌, codes, Option, Some, None}
+use Rattle.stx_scenario.specs.declared.limits.TheConstants.{MOST_CLIENTS, MOST_CONNECTIONS}
 use Rattle.std.specs.List.{list_all}
 use Rattle.std.specs.Char.{is_ascii_digit}
 use Rattle.std.specs.Str.{bytes_eq}
@@ -39,10 +40,10 @@ is_within low high z = int_le low z && int_le z high
 
 -- the ranges of the numbers, both ends included
 abbrev pub is_pool : ℤ → Bool
-is_pool z = is_within (pos 1) (pos 64) z
+is_pool z = is_within (pos 1) (pos MOST_CONNECTIONS) z
 
 abbrev pub is_order : ℤ → Bool
 is_order z = is_within (negsuc 2147483647) (pos 2147483647) z
 
 abbrev pub is_client : ℤ → Bool
-is_client z = is_within (pos 0) (pos 63) z
+is_client z = is_within (pos 0) (pos (MOST_CLIENTS - 1)) z

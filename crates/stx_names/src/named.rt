@@ -1,12 +1,9 @@
 // The names of a scenario, in the order of the numbers that they stand for.
-ghost use Rattle.std.specs.Prelude.{◌≡◌, IfOk, map, string_bytes, List as Elements, ℕ, take, drop};
+ghost use Rattle.std.specs.Prelude.{◌≡◌, IfOk, map, string_bytes, take, drop};
 ghost use Rattle.stx_names.specs.Duplicates.{names_of as names_of_scenario, method_text as text_of_method_name, number_of_method};
 
 use std::alloc::{AllocError, Global};
-use stx_scenario::{Bean, ClassDecl, List, Listener, Method, Name, NoMemory, Scenario, SyncDecl};
-
-/// The number of built-in classes.
-const BUILT_IN: usize = 17;
+use stx_scenario::{BUILT_IN_CLASSES, HasName, List, Method, Name, NoMemory, Scenario};
 
 /// The names of a scenario, group by group. A method's is its bean's and its own, as the group says them.
 #[derive(Debug, Drop)]
@@ -27,61 +24,13 @@ pub fn method_text(alloc: Global, bean: &str, method: &str) -> Result<String, Al
     Ok(format!(in alloc; "{bean}.{method}")?)
 }
 
-/// What has a name.
-trait HasName {
-    ghost name_of: { Self → Elements ℕ };
-
-    fn name(&self) -> &str
-        ensures { result.now ≡ name_of self.now };
-}
-
-impl HasName for Name {
-    ghost name_of = { λ name. name };
-
-    fn name(&self) -> &str {
-        self.as_str()
-    }
-}
-
-impl HasName for ClassDecl {
-    ghost name_of = { λ class. class.name };
-
-    fn name(&self) -> &str {
-        self.name.as_str()
-    }
-}
-
-impl HasName for Bean {
-    ghost name_of = { λ bean. bean.name };
-
-    fn name(&self) -> &str {
-        self.name.as_str()
-    }
-}
-
-impl HasName for SyncDecl {
-    ghost name_of = { λ sync. sync.name };
-
-    fn name(&self) -> &str {
-        self.name.as_str()
-    }
-}
-
-impl HasName for Listener {
-    ghost name_of = { λ listener. listener.name };
-
-    fn name(&self) -> &str {
-        self.name.as_str()
-    }
-}
-
 /// The names of a scenario, without the built-in classes and the rows that only statements name. A method's bean stands
 /// there by its number.
 pub fn names_of(alloc: Global, scenario: &Scenario) -> Result<Named, NoMemory>
     ensures { IfOk result (λ named. named ≡ names_of_scenario scenario.now) }
 {
     let rows = first(scenario.row_names.as_slice(), scenario.values.len());
-    let classes = past(scenario.classes.as_slice(), BUILT_IN);
+    let classes = past(scenario.classes.as_slice(), BUILT_IN_CLASSES);
     Ok(Named {
         events: names_from(alloc, scenario.events.as_slice())?,
         rows: names_from(alloc, rows)?,

@@ -2,7 +2,7 @@ pub mod Begins
 pub mod Closing
 pub mod Ending
 pub mod Joining
-pub mod OneSeat
+pub mod Joined
 pub mod Seats
 pub mod Splitting
 pub mod Starting

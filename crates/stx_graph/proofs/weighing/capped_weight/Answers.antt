@@ -22,5 +22,5 @@ loop-calls-preserved c =
     c.calls_cost-cost.ensures
     ∙ ap (λ (costs : List Cost). capped (total (map (cost_at costs) c.as_slice.result.now))) c.deref.ensures.value
     ∙ ap (λ (calls : List MethodNo). capped (total (map (cost_at c.in_ok-methods.methods.items) calls))) c.as_slice.ensures in
-    client_turn S 65 c.in_ok-methods.methods.items S.clients n calls c.calls_cost-cost.result c.loop-calls.weight c.client_weight.result
+    client_turn S c.args.levels c.in_ok-methods.methods.items S.clients n calls c.calls_cost-cost.result c.loop-calls.weight c.client_weight.result
     c.min-weight.result c.in_ok-methods.ensures range c.loop-calls.invariant below here cost c.client_weight.ensures c.min-weight.ensures
