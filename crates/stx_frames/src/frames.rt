@@ -33,7 +33,8 @@ impl<S> Frames<S> {
 
     /// No frames, and no room. It takes no memory.
     pub fn new(alloc: Global) -> Frames<S>
-        ensures { result.items ≡ [] }
+        ensures items { result.items ≡ [] }
+        ensures room { result.spare ≡ 0 }
     {
         Frames {
             frames: Vec::new(alloc),
