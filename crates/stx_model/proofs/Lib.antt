@@ -51,3 +51,5 @@ pub mod BreaksPieces
 pub mod CallableLaw
 pub mod BreaksLaw
 pub mod Sorting
+pub mod Ledgers
+pub mod Moves

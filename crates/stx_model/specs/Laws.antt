@@ -7,7 +7,8 @@ use Rattle.stx_base.specs.declared.history.PoolNote.{PoolNote}
 use Rattle.stx_base.specs.declared.history.PoolEntry.{PoolEntry}
 use Rattle.stx_base.specs.declared.history.StoreNote.{StoreNote}
 use Rattle.stx_base.specs.declared.history.StoreEntry.{StoreEntry}
-use Rattle.stx_model.specs.Faithful.{Faithful, IsBalanced, connection_bracket, transaction_bracket}
+use Rattle.stx_model.specs.Faithful.{Faithful}
+use Rattle.stx_model.specs.Brackets.{IsBalanced, connection_bracket, transaction_bracket}
 use Rattle.stx_model.specs.Played.{Turns, want_so_far, outcome_of}
 use Rattle.stx_model.specs.Built.{IsBuilt}
 use Rattle.stx_base.specs.Limits.{most_weight, notes_a_unit}

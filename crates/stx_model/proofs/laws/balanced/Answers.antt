@@ -1,5 +1,5 @@
-use Rattle.stx_model.proofs.FlatProper.{balanced}
+use Rattle.stx_model.proofs.Moves.{World}
 use Rattle.stx_model.proofs.laws.balanced.Goals as goal
 
 pub returns : goal.returns
-returns c = balanced
+returns c = ?
