@@ -31,12 +31,25 @@ abbrev pub one_less : ℕ → Option ℕ
 one_less zero = None
 one_less (suc n) = Some n
 
+-- one less, if so
+abbrev pub paid : Bool → ℕ → Option ℕ
+paid true n = one_less n
+paid false n = Some n
+
+-- one more, if so
+abbrev pub counted : Bool → ℕ → ℕ
+counted true n = suc n
+counted false n = n
+
+abbrev pub none_owed : ℕ → Option ℕ
+none_owed zero = Some zero
+none_owed (suc n) = None
+
 abbrev pub owed_after : Label → Option ℕ → Line → Option ℕ
 owed_after label None line = None
-owed_after label (Some n) (Line.Register l) = elim (same_label l label) [ true ↦ Some (suc n) | false ↦ Some n ]
-owed_after label (Some n) (Line.AfterCompletion l committed) = elim (same_label l label) [ true ↦ one_less n | false ↦ Some n ]
-owed_after label (Some zero) (Line.Top k) = Some zero
-owed_after label (Some (suc n)) (Line.Top k) = None
+owed_after label (Some n) (Line.Register l) = Some (counted (same_label l label) n)
+owed_after label (Some n) (Line.AfterCompletion l committed) = paid (same_label l label) n
+owed_after label (Some n) (Line.Top k) = none_owed n
 owed_after label (Some n) line = Some n
 
 pub record Tally : Type 0 where
@@ -93,7 +106,7 @@ nothing_outstanding = record { connections = []; transactions = []; unbound = []
 -- how many registrations of a label there are
 abbrev pub carried : Label → List Registration → ℕ
 carried label [] = 0
-carried label (r ∷ rs) = elim (same_label r.label label) [ true ↦ suc (carried label rs) | false ↦ carried label rs ]
+carried label (r ∷ rs) = counted (same_label r.label label) (carried label rs)
 
 abbrev pub opened : Label → Ledger → Context → Tally
 opened label L context = record {

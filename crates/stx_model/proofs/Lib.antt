@@ -53,3 +53,5 @@ pub mod BreaksLaw
 pub mod Sorting
 pub mod Ledgers
 pub mod Moves
+pub mod MovesPieces
+pub mod MovesScopes

@@ -35,7 +35,7 @@ Sound W = IsSound W.scenario W.store
 
 -- ---- what may be asked for
 
-abbrev alive_in : List ℕ → Option Bound → Type 0
+abbrev pub alive_in : List ℕ → Option Bound → Type 0
 alive_in transactions None = ⊤
 alive_in transactions (Some b) = contains transactions b.transaction ≡ true
 

@@ -1,4 +1,4 @@
-use Rattle.stx_model.proofs.Moves.{World}
+use Rattle.stx_model.proofs.MovesScopes.{is_apart}
 use Rattle.stx_model.proofs.laws.balanced.Goals as goal
 
 pub returns : goal.returns
