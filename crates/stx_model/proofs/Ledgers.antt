@@ -191,8 +191,8 @@ pub record StoreRead (S : Scenario) (store : List StoreNote) (transactions : Lis
   pub said : (u : ℕ) → list_any (is_end u) lines ≡ list_any (ends u) read
   pub once : BeginsFresh store → (u : ℕ) → count (is_end u) lines ≤ 1
 
-pub count_push : {X : Type 0} (p : X → Bool) (xs : List X) (x : X) → count p (xs ++ x ∷ []) ≡ count p xs + count p (x ∷ [])
-count_push p xs x = ap length (filter-append p xs (x ∷ [])) ∙ length-append (filter p xs) (filter p (x ∷ []))
+pub count_append : {X : Type 0} (p : X → Bool) (xs ys : List X) → count p (xs ++ ys) ≡ count p xs + count p ys
+count_append p xs ys = ap length (filter-append p xs ys) ∙ length-append (filter p xs) (filter p ys)
 
 pub count_none : {X : Type 0} (p : X → Bool) (xs : List X) → list_any p xs ≡ false → count p xs ≡ 0
 count_none p [] none = refl
@@ -223,7 +223,7 @@ silent S store ts points lines left line ends_none h = record {
   unpointed = h.unpointed;
   said = λ u. list_any-push (is_end u) lines line ∙ ap (λ b. list_any (is_end u) lines || b) (ends_none u) ∙ or-false (list_any (is_end u) lines) ∙ h.said u;
   once = λ fresh u. let before : count (is_end u) lines ≤ 1 = h.once fresh u in
-      omega (arith, count_push (is_end u) lines line, count_none (is_end u) (line ∷ []) (rw (ends_none u) refl));
+      omega (arith, count_append (is_end u) lines (line ∷ []), count_none (is_end u) (line ∷ []) (rw (ends_none u) refl));
 }
 
 begun_before : (ns : List StoreNote) (n : StoreNote) (u : ℕ) → contains (begun (ns ++ n ∷ [])) u ≡ false → (contains (begun ns) u ≡ false) × (contains (begun (n ∷ [])) u ≡ false)
@@ -367,8 +367,8 @@ module _ (S : Scenario) (store : List StoreNote) (t : ℕ) (ts : List ℕ) (poin
       at_most : BeginsFresh store → (u : ℕ) (b : Bool) → (t == u) ≡ b → count (is_end u) (lines ++ store_line n ∷ []) ≤ 1
       at_most fresh u false other =
           let before : count (is_end u) lines ≤ 1 = h.once fresh u in
-          omega (arith, count_push (is_end u) lines (store_line n), count_none (is_end u) (store_line n ∷ []) (rw (line_ends_it u, other) refl))
+          omega (arith, count_append (is_end u) lines (store_line n ∷ []), count_none (is_end u) (store_line n ∷ []) (rw (line_ends_it u, other) refl))
       at_most fresh u true same =
           let here : list_any (is_end u) lines ≡ false =
               h.said u ∙ subst (λ v. list_any (ends v) h.read ≡ false) (eqb-true t u same) (not_true_is (contains (begun h.read) t) (list_any (ends t) h.read) (lives_now h fresh)) in
-          omega (arith, count_push (is_end u) lines (store_line n), count_none (is_end u) lines here, count_one (is_end u) (store_line n))
+          omega (arith, count_append (is_end u) lines (store_line n ∷ []), count_none (is_end u) lines here, count_one (is_end u) (store_line n))

@@ -28,9 +28,6 @@ pub mod Keeping
 pub mod Leaving
 pub mod FlatForm
 pub mod FlatTransfer
-pub mod FlatWeight
-pub mod ProperNotes
-pub mod FlatProper
 pub mod EntriesLaw
 pub mod PlayedLaw
 pub mod FlatGrowth
@@ -55,3 +52,5 @@ pub mod Ledgers
 pub mod Moves
 pub mod MovesPieces
 pub mod MovesScopes
+pub mod BracketLaws
+pub mod ProperLaws

@@ -1,5 +1,5 @@
-use Rattle.stx_model.proofs.MovesScopes.{is_apart}
+use Rattle.stx_model.proofs.BracketLaws.{balanced}
 use Rattle.stx_model.proofs.laws.balanced.Goals as goal
 
 pub returns : goal.returns
-returns c = ?
+returns c = balanced
