@@ -54,3 +54,5 @@ pub mod MovesPieces
 pub mod MovesScopes
 pub mod BracketLaws
 pub mod ProperLaws
+pub mod Turns
+pub mod PlayedFaithful
