@@ -1,7 +1,6 @@
 -- The laws on brackets, on registrations and on suspension, and that what is committed stays so: read off the ledger.
 use Rattle.std.proofs.Common.{◌≡◌, ℕ, zero, suc, ◌+◌, ◌≤◌, ◌==◌, ◌∷◌, ◌++◌, [], Bool, true, false, ◌||◌, List, Option, Some, None, refl, sym, ap, ◌∙◌, subst, arith, fold, filter, map, eq-eqb}
 use Rattle.std.specs.List.{All, list_any}
-use Rattle.std.proofs.lemmas.Bool.{false≢true}
 use Rattle.std.proofs.lemmas.List.Elements.{All-cons, All-from_recursion}
 use Rattle.std.proofs.lemmas.List.Sums.{fold-append}
 use Rattle.std.proofs.lemmas.Option.{same_Some}
@@ -11,14 +10,12 @@ use Rattle.stx_base.specs.declared.history.PoolNote.{PoolNote}
 use Rattle.stx_base.specs.declared.history.StoreNote.{StoreNote}
 use Rattle.stx_base.specs.declared.line.Line.{Line}
 use Rattle.stx_base.specs.declared.line.Label.{Label}
-use Rattle.stx_base.specs.Pools.{contains, out}
-use Rattle.stx_base.specs.Stores.{live, is_live}
 use Rattle.stx_model.specs.Brackets.{Bracket, open_after, connection_bracket, transaction_bracket, binding_bracket, same_label, calls_after, count, is_registering, is_completing, IsCompletedOnce, calls_from, top_calls, is_rollback}
-use Rattle.stx_model.specs.Laws.{Balanced, CompletedOnce, ResumesInOrder, CommittedStaysCommitted, GivesAllBack}
+use Rattle.stx_model.specs.Laws.{Balanced, CompletedOnce, ResumesInOrder, CommittedStaysCommitted}
 use Rattle.stx_model.specs.Meanings.{State, Result, Over, Stops, Breaks, state_of}
 use Rattle.stx_model.specs.Script.{script}
-use Rattle.stx_model.proofs.Ledgers.{one_less, counted, paid, none_owed, owed_after, Tally, tallied, tally, nothing_open, Ledger, nothing_outstanding, carried, opened, is_end, count_append}
-use Rattle.stx_model.proofs.Moves.{World, IsSettled, At, StopsAt, Ends}
+use Rattle.stx_model.proofs.Ledgers.{counted, paid, owed_after, Tally, tallied, tally, nothing_open, Ledger, nothing_outstanding, carried, is_end, count_append}
+use Rattle.stx_model.proofs.Moves.{World, At, StopsAt, Ends}
 use Rattle.stx_model.proofs.MovesPieces.{none_active}
 use Rattle.stx_model.proofs.MovesScopes.{script_goes}
 
@@ -112,7 +109,7 @@ module _ (label : Label) where
           omega (arith, line_counts line n k here, rest k m is, count_append (is_registering label) (line ∷ []) lines, count_append (is_completing label) (line ∷ []) lines)
       by rest None here is = absurd (let no : None ≡ Some m = sym (none_stays lines) ∙ is in cc)
 
-  once_if_settled : (lines : List Line) → owed_by (Some 0) lines ≡ Some 0 → IsCompletedOnce label lines
+  pub once_if_settled : (lines : List Line) → owed_by (Some 0) lines ≡ Some 0 → IsCompletedOnce label lines
   once_if_settled lines settled = record {
     all = omega (arith, lines_count lines 0 0 settled);
     never_more = λ first rest is. by first rest (owed_by (Some 0) first) refl (sym (fold-append (owed_after label) (Some 0) first rest) ∙ ap (owed_by (Some 0)) (sym is) ∙ settled);

@@ -1,6 +1,6 @@
 -- What a script has outstanding, as a ledger: what its lines have opened, and what its notes have left out and alive.
 use Rattle.std.proofs.Common.{◌≡◌, ℕ, zero, suc, ◌+◌, ◌≤◌, ◌==◌, ◌∷◌, ◌++◌, [], Bool, true, false, not, ◌&&◌, ◌||◌, List, Option, Some, None, refl, sym, ap, ◌∙◌, subst, arith, fold, length, filter, eq-eqb, eqb-true, append_assoc}
-use Rattle.std.specs.Prelude.{⊤, drop}
+use Rattle.std.specs.Prelude.{drop}
 use Rattle.std.specs.Option.{option_map}
 use Rattle.std.specs.List.{list_any, IsDistinct, AllByRecursion}
 use Rattle.std.proofs.lemmas.Bool.{false≢true, or_left}
@@ -19,9 +19,8 @@ use Rattle.stx_base.specs.Stores.{begun, begun_by, ends, is_live, pointed, savep
 use Rattle.stx_base.specs.Valid.{IsInOrder}
 use Rattle.stx_base.proofs.HistoryLaws.{or-false, or_none, list_any-push, begun-push, is_live-parts, is_live-push, savepoints-push}
 use Rattle.stx_base.proofs.PoolLaws.{IsApart, without-absent}
-use Rattle.stx_model.specs.Brackets.{open_after, connection_bracket, transaction_bracket, binding_bracket, same_label, OpenCall, calls_after, count, is_registering, is_completing}
-use Rattle.stx_model.specs.Contexts.{Context, Live, Registration, registered, is_active}
-use Rattle.stx_model.specs.Meanings.{State}
+use Rattle.stx_model.specs.Brackets.{open_after, connection_bracket, transaction_bracket, binding_bracket, same_label, OpenCall, calls_after, count}
+use Rattle.stx_model.specs.Contexts.{Context, Live, Registration, registered}
 use Rattle.stx_model.specs.Reads.{TakesFresh, TakesFreshFrom, BeginsFresh}
 
 -- ---- what lines have opened
@@ -370,5 +369,5 @@ module _ (S : Scenario) (store : List StoreNote) (t : ℕ) (ts : List ℕ) (poin
           omega (arith, count_append (is_end u) lines (store_line n ∷ []), count_none (is_end u) (store_line n ∷ []) (rw (line_ends_it u, other) refl))
       at_most fresh u true same =
           let here : list_any (is_end u) lines ≡ false =
-              h.said u ∙ subst (λ v. list_any (ends v) h.read ≡ false) (eqb-true t u same) (not_true_is (contains (begun h.read) t) (list_any (ends t) h.read) (lives_now h fresh)) in
+          h.said u ∙ subst (λ v. list_any (ends v) h.read ≡ false) (eqb-true t u same) (not_true_is (contains (begun h.read) t) (list_any (ends t) h.read) (lives_now h fresh)) in
           omega (arith, count_append (is_end u) lines (store_line n ∷ []), count_none (is_end u) lines here, count_one (is_end u) (store_line n))

@@ -1,10 +1,9 @@
 -- How each line, each change of the context and each shared call moves the ledger.
-use Rattle.std.proofs.Common.{◌≡◌, ◌⊎◌, inl, inr, ℕ, zero, suc, ◌+◌, ◌==◌, ◌∷◌, ◌++◌, [], Bool, true, false, List, Option, Some, None, refl, sym, ap, ◌∙◌, subst, eq-eqb, eqb-true}
+use Rattle.std.proofs.Common.{◌≡◌, ℕ, ◌+◌, ◌==◌, ◌∷◌, ◌++◌, [], Bool, true, false, List, Option, Some, None, refl, sym, ap, ◌∙◌, subst, eq-eqb, eqb-true}
 use Rattle.std.specs.Prelude.{⊤, drop, slice_get}
 use Rattle.std.specs.Option.{option_map}
 use Rattle.std.proofs.lemmas.Bool.{false≢true, or_left}
 use Rattle.stx_scenario.specs.declared.numbers.ClassNo.{ClassNo}
-use Rattle.stx_scenario.specs.declared.numbers.MethodNo.{MethodNo}
 use Rattle.stx_scenario.specs.declared.scenario.Scenario.{Scenario}
 use Rattle.stx_base.specs.declared.call.Want.{Want}
 use Rattle.stx_base.specs.declared.history.Access.{Access}
@@ -17,11 +16,11 @@ use Rattle.stx_base.specs.declared.line.Label.{Label}
 use Rattle.stx_base.specs.Notes.{is_answer, pool_line, store_line}
 use Rattle.stx_base.specs.Pools.{contains}
 use Rattle.stx_base.specs.Stores.{begun, ends, pointed, can_go_back, is_pointed}
-use Rattle.stx_model.specs.Brackets.{OpenCall, same_label}
+use Rattle.stx_model.specs.Brackets.{OpenCall}
 use Rattle.stx_model.specs.Contexts.{Context, Live, registered, is_active}
 use Rattle.stx_model.specs.Meanings.{State, Result, Over, Stops, Breaks, Meaning, finally, and_then, say, hear, ask, answered, on_take, on_begin, on_access}
 use Rattle.stx_model.specs.Scopes.{live_in}
-use Rattle.stx_model.proofs.Ledgers.{Tally, tallied, tally, tally_push, Bound, bound, Ledger, carried, opened, PoolRead, reads_empty, reads_taken, reads_given, is_end, IsSound, StoreRead, silent, reads_other, reads_begin, begin_unpointed, reads_end}
+use Rattle.stx_model.proofs.Ledgers.{tallied, tally, tally_push, Bound, bound, Ledger, carried, opened, PoolRead, reads_empty, reads_taken, reads_given, is_end, IsSound, StoreRead, silent, reads_other, reads_begin, begin_unpointed, reads_end}
 
 -- a scenario, the notes of one of its clients, and a label that is watched
 pub record World : Type 0 where

@@ -1,55 +1,29 @@
 -- Each piece of a script moves the ledger as its form says: what it opens it closes, whatever its end.
-use Rattle.std.proofs.Common.{◌≡◌, ◌⊎◌, inl, inr, ℕ, zero, suc, ◌+◌, ◌==◌, ◌∷◌, ◌++◌, [], Bool, true, false, ℤ, ◌+ℤ◌, List, Option, Some, None, refl, sym, ap, ◌∙◌, subst, arith, eq-eqb, append_assoc, append-nil}
-use Rattle.std.specs.Prelude.{⊤, int_lt, slice_get}
-use Rattle.std.specs.Option.{option_map_or, is_some}
-use Rattle.std.specs.List.{All, fold}
-use Rattle.std.proofs.lemmas.Bool.{false≢true, or_left}
-use Rattle.std.proofs.lemmas.List.Elements.{All-head, All-tail}
+use Rattle.std.proofs.Common.{◌≡◌, ℕ, ◌+◌, ◌∷◌, ◌++◌, [], Bool, true, false, ℤ, ◌+ℤ◌, List, Option, Some, None, refl, sym, ap, ◌∙◌, subst, arith, eq-eqb, append_assoc, append-nil}
+use Rattle.std.specs.Prelude.{int_lt}
+use Rattle.std.specs.Option.{is_some}
+use Rattle.std.specs.List.{fold}
+use Rattle.std.proofs.lemmas.Bool.{false≢true}
 use Rattle.stx_scenario.specs.declared.numbers.ClassNo.{ClassNo}
-use Rattle.stx_scenario.specs.declared.numbers.EventNo.{EventNo}
 use Rattle.stx_scenario.specs.declared.numbers.MethodNo.{MethodNo}
-use Rattle.stx_scenario.specs.declared.numbers.ListenerNo.{ListenerNo}
-use Rattle.stx_scenario.specs.declared.numbers.RowNo.{RowNo}
-use Rattle.stx_scenario.specs.declared.classes.TheConstants.{ILLEGAL_STATE_EXCEPTION, ARITHMETIC_EXCEPTION, CANNOT_ACQUIRE_LOCK_EXCEPTION, CANNOT_CREATE_TRANSACTION_EXCEPTION, CANNOT_GET_JDBC_CONNECTION_EXCEPTION, NO_TRANSACTION_EXCEPTION, UNEXPECTED_ROLLBACK_EXCEPTION}
+use Rattle.stx_scenario.specs.declared.classes.TheConstants.{ILLEGAL_STATE_EXCEPTION, ARITHMETIC_EXCEPTION, CANNOT_ACQUIRE_LOCK_EXCEPTION, CANNOT_GET_JDBC_CONNECTION_EXCEPTION, NO_TRANSACTION_EXCEPTION}
 use Rattle.stx_scenario.specs.declared.scenario.Scenario.{Scenario}
-use Rattle.stx_scenario.specs.declared.scenario.Listener.{Listener}
-use Rattle.stx_scenario.specs.declared.scenario.Phase.{Phase}
-use Rattle.stx_scenario.specs.declared.scenario.Propagation.{Propagation}
-use Rattle.stx_scenario.specs.declared.scenario.Rule.{Rule}
 use Rattle.stx_scenario.specs.declared.scenario.Stmt.{Stmt}
-use Rattle.stx_scenario.specs.declared.scenario.SyncDecl.{SyncDecl}
-use Rattle.stx_scenario.specs.declared.scenario.TxAttr.{TxAttr}
-use Rattle.stx_base.specs.declared.call.Want.{Want}
 use Rattle.stx_base.specs.declared.history.Access.{Access}
 use Rattle.stx_base.specs.declared.history.Answer.{Answer}
-use Rattle.stx_base.specs.declared.history.StoreNote.{StoreNote}
 use Rattle.stx_base.specs.declared.line.Line.{Line}
 use Rattle.stx_base.specs.declared.line.Label.{Label}
-use Rattle.stx_base.specs.declared.manager.Kind.{Kind}
-use Rattle.stx_base.specs.declared.manager.Opening.{Opening}
-use Rattle.stx_base.specs.declared.manager.Ending.{Ending}
-use Rattle.stx_base.specs.declared.manager.Round.{Round}
-use Rattle.stx_base.specs.Alone.{without_innermost}
-use Rattle.stx_base.specs.Attributes.{attribute}
 use Rattle.stx_base.specs.Pools.{contains}
-use Rattle.stx_base.specs.Stores.{pointed, can_go_back, is_pointed}
-use Rattle.stx_base.specs.Valid.{IsInOrder, SyncAllowed, is_new, allowed_before_commit, allowed_around, allowed_in}
-use Rattle.stx_base.specs.Weight.{body_of, rank}
-use Rattle.stx_base.proofs.WeightLaws.{at_get}
-use Rattle.stx_model.specs.Brackets.{OpenCall, same_label}
-use Rattle.stx_model.specs.Contexts.{Context, Live, Registration, bare, is_active, is_live, ordered, ordered_labels, registered, with_global_mark, marked_globally, with_registration, without_syncs}
-use Rattle.stx_model.specs.Ending.{Action, RoundBeforeCompletion, RoundAfterCommit, RoundAfterCompletion, CommitStore, RollbackStore, BackToPoint, ReleasePoint, MarkGlobally, ThrowUnexpected, GiveBack, Resumption, ending, has_before_commit, completion, completion_after}
-use Rattle.stx_model.specs.Listeners.{Deed, Register, RunNow, Skip, deeds, runs_in}
-use Rattle.stx_model.specs.Meanings.{State, Result, Over, Breaks, Meaning, finally, say, with_context, with_local, ask, on_take, on_begin, on_access}
-use Rattle.stx_model.specs.Opening.{opening, opening_in}
+use Rattle.stx_model.specs.Brackets.{same_label}
+use Rattle.stx_model.specs.Contexts.{Context, Live, Registration, bare, is_active, ordered_labels, registered, with_registration}
+use Rattle.stx_model.specs.Meanings.{State, Over, Meaning, say, with_context, ask, on_access}
 use Rattle.stx_model.specs.Orders.{inserted}
-use Rattle.stx_model.specs.Statements.{throws, concludes, catches, caught, RowAccess, unless_busy, access_row, nothing_more, value_of, is_value, needed, added, on_row, in_transaction, on_connection, connected, row_statement, marks, registers, register_listener}
-use Rattle.stx_model.specs.Rounds.{Calls, Way, Proxied, Direct, sync_body, callback_line, swallows, round_of, callback_statement, callback, listens, listens_in, called_back, told, stopping_round, swallowing_round, last_round}
-use Rattle.stx_model.specs.Scopes.{say_each, say_unbind, say_bind, suspend, resume, suspended, older_if, resumed, Scope, leaves, later_or, started_syncs, fresh_context, rolls, ruled, is_set, acts, completes, ends, in_scope, within, begins, empty, opens, intercepted, live_in}
-use Rattle.stx_model.specs.Script.{deals, statement, body, unscoped, proxied, invoked, calls_below, invoke, tops, script, calls_of}
-use Rattle.stx_model.proofs.BreaksPieces.{Happens, happens, resume_context}
-use Rattle.stx_model.proofs.Ledgers.{Tally, tallied, tally, nothing_open, tally_push, Bound, bound, Ledger, nothing_outstanding, counted, carried, opened, is_end}
-use Rattle.stx_model.proofs.Moves.{World, Sound, alive_in, IsAlive, IsSettled, At, AtIn, Ends, Keeps, finally_ends, and_then_ends, either_ends, live_in_ends, said, settled, in_context, same_points, ask_take, ask_give, ask_begin, ask_access, ask_auto, ask_point, ask_back, ask_release, ask_commit, ask_rollback}
+use Rattle.stx_model.specs.Statements.{throws, concludes, catches, caught, RowAccess, unless_busy, access_row, nothing_more, value_of, is_value, needed, added, on_row, in_transaction, on_connection, connected, row_statement, marks, registers}
+use Rattle.stx_model.specs.Rounds.{told}
+use Rattle.stx_model.specs.Scopes.{say_each, say_unbind, say_bind, suspend, resume}
+use Rattle.stx_model.proofs.BreaksPieces.{resume_context}
+use Rattle.stx_model.proofs.Ledgers.{tallied, Bound, bound, Ledger, counted, carried, opened, is_end}
+use Rattle.stx_model.proofs.Moves.{World, Sound, alive_in, IsAlive, At, AtIn, Ends, Keeps, either_ends, said, settled, in_context, ask_take, ask_give, ask_access, ask_auto}
 
 -- ---- registrations are counted in any order
 

@@ -1,6 +1,6 @@
 -- What a schedule plays in a valid scenario is faithful: each turn adds a legal entry that its client reads, and each client
 -- comes to its end.
-use Rattle.std.proofs.Common.{◌≡◌, ◌⊎◌, inl, inr, ℕ, zero, suc, ◌+◌, ◌<◌, ◌≤◌, ◌++◌, ◌∷◌, [], List, Option, Some, None, refl, sym, ap, ◌∙◌, subst, arith, length, length-append, true}
+use Rattle.std.proofs.Common.{◌≡◌, ◌⊎◌, inl, inr, ℕ, zero, suc, ◌+◌, ◌<◌, ◌≤◌, ◌++◌, ◌∷◌, [], List, Option, Some, None, refl, sym, ap, ◌∙◌, subst, arith, length, length-append}
 use Rattle.std.specs.Prelude.{slice_get, unwrap_or, IsTrue}
 use Rattle.std.specs.List.{fold, range_with_len}
 use Rattle.std.proofs.Math.Nat.{eq-or-lt_of_le}
@@ -26,7 +26,7 @@ use Rattle.stx_base.proofs.LegalLaws.{PoolLegal-push, StoreLegal-push, PoolFits-
 use Rattle.stx_base.proofs.NoteLaws.{pool_reply-answers, store_reply-answers}
 use Rattle.stx_model.specs.Laws.{PlayedIsFaithful}
 use Rattle.stx_model.specs.Meanings.{State, Result, Over, Stops, Breaks, Meaning, state_of, stop_of, finally, say, at_first}
-use Rattle.stx_model.specs.Played.{Turns, no_turns, turn, turns, run_out, most_calls, replied, with_pool, with_store, script_so_far, want_so_far, played_turns, played}
+use Rattle.stx_model.specs.Played.{Turns, no_turns, turn, turns, run_out, most_calls, replied, with_pool, with_store, want_so_far, played_turns, played}
 use Rattle.stx_model.specs.Reads.{ReadsAll, TakesFresh, BeginsFresh, IsProperAfter}
 use Rattle.stx_model.specs.Script.{calls_of, invoke, tops, script}
 use Rattle.stx_model.proofs.BracketLaws.{any_label, stops_so}
@@ -203,14 +203,16 @@ module _ (S : Scenario) (valid : IsInOrder S) where
   -- a client that runs out is done: there is no room for an entry more
   runs_out : (t : Turns) → Runs S t → (c : ℕ) → c < length S.clients → Runs S (run_out S t c) × IsDone S (run_out S t c) c
   runs_out t h c below =
-      let end = many_turns (most_calls S) t h c below in
-      (end.0, elim end.1 [
-        | inl done ↦ done
-        | inr many ↦ elim (turn_grows (run_out S t c) end.0 c below) [
+      let end = many_turns (most_calls S) t h c below in (
+        end.0,
+        elim end.1 [
           | inl done ↦ done
-          | inr grown ↦ absurd (omega (arith, many, grown.one_more, few_entries (turn S (run_out S t c) c) grown.runs))
-        ]
-      ])
+          | inr many ↦ elim (turn_grows (run_out S t c) end.0 c below) [
+            | inl done ↦ done
+            | inr grown ↦ absurd (omega (arith, many, grown.one_more, few_entries (turn S (run_out S t c) c) grown.runs))
+          ]
+        ],
+      )
 
   -- all clients from the k-th on run out
   all_run_out : (n k : ℕ) (t : Turns) → k + n ≡ length S.clients → Runs S t → ((c : ℕ) → c < k → IsDone S t c)

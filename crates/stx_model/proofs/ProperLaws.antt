@@ -15,12 +15,12 @@ use Rattle.stx_base.specs.Stores.{begun, live, is_live, savepoints, can_go_back,
 use Rattle.stx_base.specs.Valid.{IsInOrder}
 use Rattle.stx_base.specs.Weight.{cost, client_weight, weight}
 use Rattle.stx_model.specs.Laws.{WantsProper, GivesAllBack}
-use Rattle.stx_model.specs.Meanings.{State, Stops, state_of}
+use Rattle.stx_model.specs.Meanings.{state_of}
 use Rattle.stx_model.specs.Reads.{TakesFresh, BeginsFresh, IsProperAfter, count_unread, notes_read}
-use Rattle.stx_model.specs.Script.{calls_of, script}
+use Rattle.stx_model.specs.Script.{calls_of}
 use Rattle.stx_model.proofs.BracketLaws.{any_label, world, stops_so}
-use Rattle.stx_model.proofs.Ledgers.{Ledger, PoolRead, StoreRead, IsSound}
-use Rattle.stx_model.proofs.Moves.{World, Allows, StopsAt}
+use Rattle.stx_model.proofs.Ledgers.{Ledger}
+use Rattle.stx_model.proofs.Moves.{World, Allows}
 use Rattle.stx_model.proofs.ReadsLaw.{client_reads}
 
 -- ---- what a script reads is little
