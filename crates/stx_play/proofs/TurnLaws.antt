@@ -23,7 +23,7 @@ use Rattle.stx_base.proofs.LegalLaws.{PoolLegal-push, StoreLegal-push, PoolFits-
 use Rattle.stx_base.proofs.HistoryLaws.{pool_notes_of-push, pool_notes_of-push_other, store_notes_of-push, store_notes_of-push_other}
 use Rattle.stx_base.proofs.NoteLaws.{pool_reply-answers, store_reply-answers}
 use Rattle.stx_model.proofs.FreshLaw.{own_notes_fresh}
-use Rattle.stx_model.proofs.FlatProper.{wants_proper}
+use Rattle.stx_model.proofs.ProperLaws.{wants_proper}
 use Rattle.stx_client.specs.View.{ClientView, script_of, has_told, with_note, calling, fed, HasReadAll}
 use Rattle.stx_pool.specs.Pool.{Pool, with_pool_entry}
 use Rattle.stx_store.specs.Store.{Store, with_store_entry}
@@ -51,7 +51,7 @@ module _ (S : Scenario) (client : ClientView) (c : ℕ) (pool : Pool) (store : S
 
   proper_after : (w : Want) → stop_of (script_of client) ≡ Some w → IsProperAfter own_pool own_store w
   proper_after w is =
-      wants_proper S ready.playable.built ready.playable.order.light c own_pool own_store w (state_of (script_so_far S so_far c)) (stops_with (script_so_far S so_far c) w (wanted w is)) ready.read.pool_read ready.read.store_read
+      wants_proper S ready.playable.order c own_pool own_store w (state_of (script_so_far S so_far c)) (stops_with (script_so_far S so_far c) w (wanted w is)) ready.read.pool_read ready.read.store_read
 
   takes_fresh : TakesFresh own_pool
   takes_fresh = (own_notes_fresh (length S.clients) c).0 S.settings.pool pool.entries ready.cores.pool_legal
