@@ -124,29 +124,23 @@ module _ (W : World) where
 
   -- ---- lines and contexts
 
-  -- a line that opens or closes no more than a call or a binding
-  pub said : (line : Line) (L : Ledger) (unbound : List ℕ) (calls : List OpenCall) (context : Context) (st : State) → ((u : ℕ) → is_end u line ≡ false)
-      → tallied W.label (opened W.label L context) line ≡ opened W.label (record L { unbound = unbound; calls = calls }) context
-      → AtIn L context st → AtIn (record L { unbound = unbound; calls = calls }) context (say line st)
-  said line L unbound calls context st ends_none step h = record {
-    tallies = tally_push W.label st.lines line ∙ ap (λ t. tallied W.label t line) h.tallies ∙ step;
-    tx = h.tx;
-    active = h.active;
-    pools = h.pools;
-    stores = silent W.scenario W.store L.transactions L.points st.lines st.store line ends_none h.stores;
-  }
-
-  -- a line that changes what is owed, and perhaps the context's registrations
-  pub settled : (line : Line) (L : Ledger) (owed : ℕ) (old new : Context) (st : State) → ((u : ℕ) → is_end u line ≡ false) → new.tx ≡ old.tx → is_active new ≡ is_active old
-      → tallied W.label (opened W.label L old) line ≡ opened W.label (record L { owed = owed }) new
-      → AtIn L old st → AtIn (record L { owed = owed }) new (say line st)
-  settled line L owed old new st ends_none same_tx same_active step h = record {
+  -- a line that opens or closes no more than a call or a binding, and changes what is owed, by itself or by the registrations
+  pub moved : (line : Line) (L : Ledger) (unbound : List ℕ) (calls : List OpenCall) (owed : ℕ) (old new : Context) (st : State) → ((u : ℕ) → is_end u line ≡ false)
+      → new.tx ≡ old.tx → is_active new ≡ is_active old
+      → tallied W.label (opened W.label L old) line ≡ opened W.label (record L { unbound = unbound; calls = calls; owed = owed }) new
+      → AtIn L old st → AtIn (record L { unbound = unbound; calls = calls; owed = owed }) new (say line st)
+  moved line L unbound calls owed old new st ends_none same_tx same_active step h = record {
     tallies = tally_push W.label st.lines line ∙ ap (λ t. tallied W.label t line) h.tallies ∙ step;
     tx = ap bound same_tx ∙ h.tx;
     active = same_active ∙ h.active;
     pools = h.pools;
     stores = silent W.scenario W.store L.transactions L.points st.lines st.store line ends_none h.stores;
   }
+
+  pub said : (line : Line) (L : Ledger) (unbound : List ℕ) (calls : List OpenCall) (context : Context) (st : State) → ((u : ℕ) → is_end u line ≡ false)
+      → tallied W.label (opened W.label L context) line ≡ opened W.label (record L { unbound = unbound; calls = calls }) context
+      → AtIn L context st → AtIn (record L { unbound = unbound; calls = calls }) context (say line st)
+  said line L unbound calls context st ends_none step h = moved line L unbound calls L.owed context context st ends_none refl refl step h
 
   pub in_context : (L : Ledger) (owed : ℕ) (tx : Option Bound) (active : Bool) (old new : Context) (st : State)
       → L.owed + carried W.label (registered old.syncs) ≡ owed + carried W.label (registered new.syncs) → bound new.tx ≡ tx → is_active new ≡ active

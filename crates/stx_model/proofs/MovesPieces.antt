@@ -23,7 +23,7 @@ use Rattle.stx_model.specs.Rounds.{told}
 use Rattle.stx_model.specs.Scopes.{say_each, say_unbind, say_bind, suspend, resume}
 use Rattle.stx_model.proofs.BreaksPieces.{resume_context}
 use Rattle.stx_model.proofs.Ledgers.{tallied, Bound, bound, Ledger, counted, carried, opened, is_end}
-use Rattle.stx_model.proofs.Moves.{World, Sound, alive_in, IsAlive, At, AtIn, Ends, Keeps, either_ends, said, settled, in_context, ask_take, ask_give, ask_access, ask_auto}
+use Rattle.stx_model.proofs.Moves.{World, Sound, alive_in, IsAlive, At, AtIn, Ends, Keeps, either_ends, said, moved, in_context, ask_take, ask_give, ask_access, ask_auto}
 
 -- ---- registrations are counted in any order
 
@@ -124,7 +124,7 @@ module _ (W : World) where
   pub registers_go : (L : Ledger) (r : Registration) (syncs : Option (List Registration)) (st : State) → st.context.syncs ≡ syncs → At W L st → Ends W L (registers r syncs st)
   registers_go L r None st is h = throws_go L ILLEGAL_STATE_EXCEPTION st h
   registers_go L r (Some list) st is h =
-      settled W (Line.Register r.label) L L.owed st.context (with_registration r list st.context) st (λ u. refl) refl (sym (ap is_some is)) step h
+      moved W (Line.Register r.label) L L.unbound L.calls L.owed st.context (with_registration r list st.context) st (λ u. refl) refl (sym (ap is_some is)) step h
     where
       step : tallied W.label (opened W.label L st.context) (Line.Register r.label) ≡ opened W.label L (with_registration r list st.context)
       step = ap (λ n. record { connections = Some L.connections; transactions = Some L.transactions; bindings = Some L.unbound; calls = Some L.calls; owed = Some n })

@@ -42,7 +42,7 @@ use Rattle.stx_model.specs.Scopes.{suspend, resume, suspended, resumed, Scope, l
 use Rattle.stx_model.specs.Script.{deals, statement, body, unscoped, proxied, invoked, calls_below, invoke, tops, script, calls_of}
 use Rattle.stx_model.proofs.BreaksPieces.{Happens, happens}
 use Rattle.stx_model.proofs.Ledgers.{tallied, tally, nothing_open, one_less, paid, Bound, bound, Ledger, nothing_outstanding, counted, carried, opened, is_end}
-use Rattle.stx_model.proofs.Moves.{World, Sound, IsAlive, At, AtIn, Ends, Keeps, finally_ends, and_then_ends, either_ends, live_in_ends, said, settled, in_context, same_points, ask_take, ask_give, ask_begin, ask_point, ask_back, ask_release, ask_commit, ask_rollback}
+use Rattle.stx_model.proofs.Moves.{World, Sound, IsAlive, At, AtIn, Ends, Keeps, finally_ends, and_then_ends, either_ends, live_in_ends, said, moved, in_context, same_points, ask_take, ask_give, ask_begin, ask_point, ask_back, ask_release, ask_commit, ask_rollback}
 use Rattle.stx_model.proofs.MovesPieces.{carried_ordered, none_active, plain, throws_go, caught_go, alive_at, row_go, marks_go, registers_go, inside, apart, suspends, resumes, left}
 use Rattle.stx_model.proofs.Callable.{listener_body}
 use Rattle.stx_model.proofs.Leaving.{empty_is_bare}
@@ -290,7 +290,7 @@ module _ (W : World) where
     pays : (L : Ledger) (committed : Bool) (r : Registration) (later : List Registration) (context : Context) (st : State)
         → AtIn W (owing L (carried W.label (r ∷ later))) context st → AtIn W (owing L (carried W.label later)) context (say (Line.AfterCompletion r.label committed) st)
     pays L committed r later context st h =
-        settled W (Line.AfterCompletion r.label committed) (owing L (carried W.label (r ∷ later))) (L.owed + carried W.label later) context context st (λ u. refl) refl refl
+        moved W (Line.AfterCompletion r.label committed) (owing L (carried W.label (r ∷ later))) L.unbound L.calls (L.owed + carried W.label later) context context st (λ u. refl) refl refl
         (ap (λ o. record { connections = Some L.connections; transactions = Some L.transactions; bindings = Some L.unbound; calls = Some L.calls; owed = o })
         (by (same_label r.label W.label))) h
       where

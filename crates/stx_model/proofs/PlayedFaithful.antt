@@ -26,7 +26,7 @@ use Rattle.stx_base.proofs.LegalLaws.{PoolLegal-push, StoreLegal-push, PoolFits-
 use Rattle.stx_base.proofs.NoteLaws.{pool_reply-answers, store_reply-answers}
 use Rattle.stx_model.specs.Laws.{PlayedIsFaithful}
 use Rattle.stx_model.specs.Meanings.{State, Result, Over, Stops, Breaks, Meaning, state_of, stop_of, finally, say, at_first}
-use Rattle.stx_model.specs.Played.{Turns, no_turns, turn, turns, run_out, most_calls, replied, with_pool, with_store, want_so_far, played_turns, played}
+use Rattle.stx_model.specs.Played.{Turns, count_entries, IsClientDone, no_turns, turn, turns, run_out, most_calls, replied, with_pool, with_store, want_so_far, played_turns, played}
 use Rattle.stx_model.specs.Reads.{ReadsAll, TakesFresh, BeginsFresh, IsProperAfter}
 use Rattle.stx_model.specs.Script.{calls_of, invoke, tops, script}
 use Rattle.stx_model.proofs.BracketLaws.{any_label, stops_so}
@@ -36,7 +36,7 @@ use Rattle.stx_model.proofs.FreshLaw.{own_notes_fresh}
 use Rattle.stx_model.proofs.NotesLaw.{none_at_end, reads_in_order, answers_are_read}
 use Rattle.stx_model.proofs.PlayedLaw.{faithful_if_done}
 use Rattle.stx_model.proofs.ProperLaws.{wants_proper}
-use Rattle.stx_model.proofs.Turns.{IsDone, still_done, done_stays, turns_done}
+use Rattle.stx_model.proofs.Turns.{still_done, done_stays, turns_done}
 
 -- ---- scripts stop or break
 
@@ -57,9 +57,6 @@ never_over S k (m ∷ calls) st x end is =
     let goes = over_from (invoke S m (say (Line.Top k) st)) (λ _. tops S (k + 1) calls) x end is in never_over S (k + 1) calls goes.state x end goes.is
 
 -- ---- histories under way
-
-abbrev pub count_entries : Turns → ℕ
-count_entries t = length t.pool + length t.store
 
 -- legal histories whose notes their clients have all read
 pub record Runs (S : Scenario) (t : Turns) : Type 0 where
@@ -164,7 +161,7 @@ module _ (S : Scenario) (valid : IsInOrder S) where
 
     -- a turn of a client that isn't done adds an entry
     turn_of : (w : Want) (end : State) → script S c own_pool own_store ≡ Stops w end → end.pool ≡ [] → end.store ≡ [] → IsProperAfter own_pool own_store w
-        → IsDone S t c ⊎ Grows S t (turn S t c)
+        → IsClientDone S t c ⊎ Grows S t (turn S t c)
     unfolding pool_reply store_reply
     turn_of Want.Take end is no_pool no_store proper = inr (turned Want.Take (ap stop_of is) (pool_entry Want.Take end is no_pool no_store _ refl (proper takes_fresh)))
     turn_of (Want.Give n) end is no_pool no_store proper = inr (turned (Want.Give n) (ap stop_of is) (pool_entry (Want.Give n) end is no_pool no_store _ refl (proper takes_fresh)))
@@ -179,7 +176,7 @@ module _ (S : Scenario) (valid : IsInOrder S) where
     turn_of Want.Done end is no_pool no_store proper = inl (ap stop_of is)
     turn_of Want.Failed end is no_pool no_store proper = absurd (stops_so S c own_pool own_store any_label Want.Failed end is).allowed
 
-    turn_grows : IsDone S t c ⊎ Grows S t (turn S t c)
+    turn_grows : IsClientDone S t c ⊎ Grows S t (turn S t c)
     turn_grows =
         turn_of wanted.want wanted.end wanted.is wanted.no_pool wanted.no_store
         (wants_proper S valid c own_pool own_store wanted.want wanted.end wanted.is wanted.no_pool wanted.no_store)
@@ -188,20 +185,20 @@ module _ (S : Scenario) (valid : IsInOrder S) where
 
   -- after so many turns a client is done, or has added an entry by each
   many_turns : (n : ℕ) (t : Turns) → Runs S t → (c : ℕ) → c < length S.clients
-      → Runs S (turns S c n t) × (IsDone S (turns S c n t) c ⊎ (count_entries (turns S c n t) ≡ count_entries t + n))
+      → Runs S (turns S c n t) × (IsClientDone S (turns S c n t) c ⊎ (count_entries (turns S c n t) ≡ count_entries t + n))
   unfolding turns
   many_turns zero t h c below = (h, inr (omega arith))
   many_turns (suc n) t h c below = elim (turn_grows t h c below) [
     | inl done ↦
         let same : t ≡ turns S c (suc n) t = sym (turns_done S c (suc n) t done) in
-        (subst (Runs S) same h, inl (subst (λ t. IsDone S t c) same done))
+        (subst (Runs S) same h, inl (subst (λ t. IsClientDone S t c) same done))
     | inr grown ↦
         let rest = many_turns n (turn S t c) grown.runs c below in
         (rest.0, elim rest.1 [ inl done ↦ inl done | inr many ↦ inr (omega (arith, many, grown.one_more)) ])
   ]
 
   -- a client that runs out is done: there is no room for an entry more
-  runs_out : (t : Turns) → Runs S t → (c : ℕ) → c < length S.clients → Runs S (run_out S t c) × IsDone S (run_out S t c) c
+  runs_out : (t : Turns) → Runs S t → (c : ℕ) → c < length S.clients → Runs S (run_out S t c) × IsClientDone S (run_out S t c) c
   runs_out t h c below =
       let end = many_turns (most_calls S) t h c below in (
         end.0,
@@ -215,13 +212,13 @@ module _ (S : Scenario) (valid : IsInOrder S) where
       )
 
   -- all clients from the k-th on run out
-  all_run_out : (n k : ℕ) (t : Turns) → k + n ≡ length S.clients → Runs S t → ((c : ℕ) → c < k → IsDone S t c)
-      → Runs S (fold (run_out S) t (range_with_len k n)) × ((c : ℕ) → c < length S.clients → IsDone S (fold (run_out S) t (range_with_len k n)) c)
+  all_run_out : (n k : ℕ) (t : Turns) → k + n ≡ length S.clients → Runs S t → ((c : ℕ) → c < k → IsClientDone S t c)
+      → Runs S (fold (run_out S) t (range_with_len k n)) × ((c : ℕ) → c < length S.clients → IsClientDone S (fold (run_out S) t (range_with_len k n)) c)
   all_run_out zero k t is h done = (h, λ c below. done c (omega (arith, is, below)))
   all_run_out (suc n) k t is h done =
       let out = runs_out t h k (omega (arith, is)) in
       all_run_out n (k + 1) (run_out S t k) (omega (arith, is)) out.0 (λ c below. elim (eq-or-lt_of_le (less c below)) [
-        | inl same ↦ subst (IsDone S (run_out S t k)) (sym same) out.1
+        | inl same ↦ subst (IsClientDone S (run_out S t k)) (sym same) out.1
         | inr before ↦ still_done S k c (λ same. omega (arith, before, same)) t (done c before)
       ])
     where
@@ -240,7 +237,7 @@ module _ (S : Scenario) (valid : IsInOrder S) where
         | inr grown ↦ grown.runs
       ]
       by None past =
-          let none : IsDone S t c = ap (λ o. stop_of (tops S 0 (unwrap_or o []) (at_first (pool_notes_of t.pool c) (store_notes_of t.store c)))) past in
+          let none : IsClientDone S t c = ap (λ o. stop_of (tops S 0 (unwrap_or o []) (at_first (pool_notes_of t.pool c) (store_notes_of t.store c)))) past in
           subst (Runs S) (sym (done_stays S t c none)) h
 
   all_turns : (schedule : List ℕ) (t : Turns) → Runs S t → Runs S (fold (turn S) t schedule)

@@ -19,7 +19,7 @@ use Rattle.stx_model.specs.Faithful.{IsBack, Faithful}
 use Rattle.stx_base.specs.Histories.{pool_notes, store_notes, pool_notes_of, store_notes_of}
 use Rattle.stx_base.specs.Legal.{PoolFits, PoolLegal, StoreFits, StoreLegal}
 use Rattle.stx_model.specs.Meanings.{Result, Over, Stops, Breaks, state_of, stop_of}
-use Rattle.stx_model.specs.Played.{Turns, script_so_far, want_so_far, lines_so_far, outcome_of}
+use Rattle.stx_model.specs.Played.{Turns, IsClientDone, script_so_far, lines_so_far, outcome_of}
 use Rattle.stx_base.specs.Pools.{contains, out_after, out}
 use Rattle.stx_model.specs.Reads.{ReadsAll}
 use Rattle.stx_base.specs.Stores.{store_facts, begun, ends, live, is_live}
@@ -173,7 +173,7 @@ lines_at S t c below =
 
 module _ (S : Scenario) (t : Turns) (pool_legal : PoolLegal (length S.clients) S.settings.pool t.pool) (store_legal : StoreLegal (length S.clients) (store_facts S) t.store)
     (reads_all : (c : ℕ) → c < length S.clients → ReadsAll S c (pool_notes_of t.pool c) (store_notes_of t.store c))
-    (done : (c : ℕ) → c < length S.clients → want_so_far S t c ≡ Some Want.Done) where
+    (done : (c : ℕ) → c < length S.clients → IsClientDone S t c) where
   stops_done : (c : ℕ) → c < length S.clients → script_so_far S t c ≡ Stops Want.Done (state_of (script_so_far S t c))
   stops_done c below = stops_at (script_so_far S t c) Want.Done (done c below)
 
@@ -203,7 +203,7 @@ module _ (S : Scenario) (t : Turns) (pool_legal : PoolLegal (length S.clients) S
 pub faithful_if_done : (S : Scenario) (t : Turns)
     → PoolLegal (length S.clients) S.settings.pool t.pool → StoreLegal (length S.clients) (store_facts S) t.store
     → ((c : ℕ) → c < length S.clients → ReadsAll S c (pool_notes_of t.pool c) (store_notes_of t.store c))
-    → ((c : ℕ) → c < length S.clients → want_so_far S t c ≡ Some Want.Done)
+    → ((c : ℕ) → c < length S.clients → IsClientDone S t c)
     → Faithful S (outcome_of S t)
 faithful_if_done S t pool_legal store_legal reads_all done = record {
   pool_legal = pool_legal;

@@ -8,11 +8,8 @@ use Rattle.stx_base.specs.Histories.{pool_notes_of, store_notes_of}
 use Rattle.stx_base.specs.Stores.{store_reply}
 use Rattle.stx_base.proofs.HistoryLaws.{pool_notes_of-push_other, store_notes_of-push_other}
 use Rattle.stx_model.specs.Meanings.{stop_of}
-use Rattle.stx_model.specs.Played.{Turns, turn, turns, run_out, replied, with_pool, with_store, script_so_far, want_so_far, most_calls}
+use Rattle.stx_model.specs.Played.{Turns, IsClientDone, turn, turns, run_out, replied, with_pool, with_store, script_so_far, want_so_far, most_calls}
 use Rattle.stx_model.specs.Script.{script}
-
-abbrev pub IsDone : Scenario → Turns → ℕ → Type 0
-IsDone S t c = want_so_far S t c ≡ Some Want.Done
 
 -- ---- others
 
@@ -36,18 +33,18 @@ module _ (S : Scenario) (k c : ℕ) (apart : k ≡ c → ⊥) where
   turns_other zero t = refl
   turns_other (suc n) t = turns_other n (turn S t k) ∙ replied_other t (want_so_far S t k)
 
-  pub still_done : (t : Turns) → IsDone S t c → IsDone S (run_out S t k) c
+  pub still_done : (t : Turns) → IsClientDone S t c → IsClientDone S (run_out S t k) c
   still_done t done = ap stop_of (turns_other (most_calls S) t) ∙ done
 
 -- ---- clients that are done
 
 -- a turn of a client that is done does nothing
-pub done_stays : (S : Scenario) (t : Turns) (c : ℕ) → IsDone S t c → turn S t c ≡ t
+pub done_stays : (S : Scenario) (t : Turns) (c : ℕ) → IsClientDone S t c → turn S t c ≡ t
 unfolding turn store_reply
 done_stays S t c done = ap (replied S t c) done
 
 -- nor do more of them
-pub turns_done : (S : Scenario) (c n : ℕ) (t : Turns) → IsDone S t c → turns S c n t ≡ t
+pub turns_done : (S : Scenario) (c n : ℕ) (t : Turns) → IsClientDone S t c → turns S c n t ≡ t
 unfolding turns
 turns_done S c zero t done = refl
 turns_done S c (suc n) t done = ap (turns S c n) (done_stays S t c done) ∙ turns_done S c n t done

@@ -1,5 +1,5 @@
 -- The laws that public functions carry.
-use Rattle.std.specs.Prelude.{◌≡◌, ℕ, ◌+◌, ◌*◌, ◌<◌, ◌≤◌, List, [], ◌∷◌, ◌++◌, map, length, true, false, Some}
+use Rattle.std.specs.Prelude.{◌≡◌, ℕ, ◌+◌, ◌*◌, ◌<◌, ◌≤◌, List, [], ◌∷◌, ◌++◌, map, length, true, false}
 use Rattle.std.specs.List.{All, list_any}
 use Rattle.stx_scenario.specs.declared.scenario.Scenario.{Scenario}
 use Rattle.stx_base.specs.declared.facts.StoreFacts.{StoreFacts}
@@ -12,7 +12,7 @@ use Rattle.stx_base.specs.declared.line.Line.{Line}
 use Rattle.stx_base.specs.declared.line.Label.{Label}
 use Rattle.stx_model.specs.Faithful.{Faithful}
 use Rattle.stx_model.specs.Brackets.{IsBalanced, connection_bracket, transaction_bracket, binding_bracket, IsResumedInOrder, IsCompletedOnce, top_calls, is_rollback}
-use Rattle.stx_model.specs.Played.{Turns, want_so_far, outcome_of, played}
+use Rattle.stx_model.specs.Played.{Turns, IsClientDone, outcome_of, played}
 use Rattle.stx_base.specs.Limits.{notes_a_unit}
 use Rattle.stx_base.specs.Histories.{pool_notes_of, store_notes_of, sum_below}
 use Rattle.stx_base.specs.Legal.{PoolLegal, StoreLegal}
@@ -123,7 +123,7 @@ abbrev pub DoneIsFaithful : Type 0
 DoneIsFaithful = (S : Scenario) (so_far : Turns)
     → PoolLegal (length S.clients) S.settings.pool so_far.pool → StoreLegal (length S.clients) (store_facts S) so_far.store
     → ((c : ℕ) → c < length S.clients → ReadsAll S c (pool_notes_of so_far.pool c) (store_notes_of so_far.store c))
-    → ((c : ℕ) → c < length S.clients → want_so_far S so_far c ≡ Some Want.Done)
+    → ((c : ℕ) → c < length S.clients → IsClientDone S so_far c)
     → Faithful S (outcome_of S so_far)
 
 -- what a schedule plays in a valid scenario is a faithful run

@@ -1,5 +1,5 @@
 -- Playing on one thread: the turns of a schedule, and then each client to its end, in the order of their numbers.
-use Rattle.std.specs.Prelude.{ℕ, zero, suc, ◌*◌, List, [], ◌∷◌, ◌++◌, map, length, Option, Some, None}
+use Rattle.std.specs.Prelude.{◌≡◌, ℕ, zero, suc, ◌+◌, ◌*◌, List, [], ◌∷◌, ◌++◌, map, length, Option, Some, None}
 use Rattle.std.specs.List.{fold, range_with_len}
 use Rattle.stx_scenario.specs.declared.scenario.Scenario.{Scenario}
 use Rattle.stx_base.specs.declared.call.Want.{Want}
@@ -22,6 +22,10 @@ pub record Turns : Type 0 where
   pub pool : List PoolEntry
   pub store : List StoreEntry
 
+-- how many entries they have together
+abbrev pub count_entries : Turns → ℕ
+count_entries so_far = length so_far.pool + length so_far.store
+
 abbrev pub no_turns : Turns
 no_turns = record { pool = []; store = [] }
 
@@ -32,6 +36,10 @@ script_so_far S so_far c = script S c (pool_notes_of so_far.pool c) (store_notes
 -- the call that client c wants next
 abbrev pub want_so_far : Scenario → Turns → ℕ → Option Want
 want_so_far S so_far c = stop_of (script_so_far S so_far c)
+
+-- client c has made all of its calls
+abbrev pub IsClientDone : Scenario → Turns → ℕ → Type 0
+IsClientDone S so_far c = want_so_far S so_far c ≡ Some Want.Done
 
 abbrev pub with_pool : Turns → ℕ → Option PoolNote → Turns
 with_pool so_far c (Some note) = record { pool = so_far.pool ++ record { client = c; note = note } ∷ []; store = so_far.store }

@@ -1,8 +1,8 @@
 -- A play as contracts see it, and what turns make of it.
-use Rattle.std.specs.Prelude.{◌≡◌, ℕ, ◌<◌, Bool, false, length, Some}
+use Rattle.std.specs.Prelude.{ℕ, ◌<◌, Bool, false, length}
 use Rattle.stx_scenario.specs.declared.scenario.Scenario.{Scenario}
-use Rattle.stx_base.specs.declared.call.Want.{Want}
-use Rattle.stx_model.specs.Played.{Turns, no_turns, turn, want_so_far}
+pub use Rattle.stx_model.specs.Played.{IsClientDone}
+use Rattle.stx_model.specs.Played.{Turns, no_turns, turn}
 
 -- the histories so far, and whether memory has run out: then it can only be dropped
 pub record PlayView : Type 0 where
@@ -18,9 +18,6 @@ with_turn play c = record { scenario = play.scenario; so_far = turn play.scenari
 
 abbrev pub with_turns : PlayView → Turns → PlayView
 with_turns play so_far = record { scenario = play.scenario; so_far = so_far; failed = play.failed }
-
-abbrev pub IsClientDone : Scenario → Turns → ℕ → Type 0
-IsClientDone S so_far c = want_so_far S so_far c ≡ Some Want.Done
 
 -- every client has made all of its calls
 abbrev pub AllDone : Scenario → Turns → Type 0

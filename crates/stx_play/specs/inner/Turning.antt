@@ -9,6 +9,7 @@ use Rattle.stx_base.specs.Histories.{pool_notes_of, store_notes_of}
 use Rattle.stx_base.specs.Legal.{PoolLegal, StoreLegal}
 use Rattle.stx_model.specs.Playable.{IsPlayable}
 use Rattle.stx_model.specs.Reads.{ReadsAll}
+pub use Rattle.stx_model.specs.Played.{count_entries}
 use Rattle.stx_model.specs.Played.{Turns, turn, most_calls}
 use Rattle.stx_model.specs.Meanings.{stop_of}
 use Rattle.stx_base.specs.Notes.{pool_call_want, store_call_want}
@@ -18,9 +19,6 @@ use Rattle.stx_client.specs.View.{ClientView, script_of, has_told}
 use Rattle.stx_pool.specs.Pool.{Pool, PoolCallAnswered}
 use Rattle.stx_store.specs.Store.{Store, StoreCallAnswered}
 use Rattle.stx_play.specs.Play.{PlayView}
-
-abbrev pub count_entries : Turns → ℕ
-count_entries so_far = length so_far.pool + length so_far.store
 
 -- the histories have one entry more, and are still within what the scenario's weight allows
 pub record HasOneMore (old new : PlayView) : Type 0 where
