@@ -3,6 +3,7 @@ use Rattle.std.proofs.Common.{◌≡◌, ℕ, ◌+◌, ◌==◌, ◌∷◌, ◌+
 use Rattle.std.specs.Prelude.{⊤, drop, slice_get}
 use Rattle.std.specs.Option.{option_map}
 use Rattle.std.proofs.lemmas.Bool.{false≢true, or_left}
+use Rattle.std.proofs.lemmas.Option.{same_Some}
 use Rattle.stx_scenario.specs.declared.numbers.ClassNo.{ClassNo}
 use Rattle.stx_scenario.specs.declared.scenario.Scenario.{Scenario}
 use Rattle.stx_base.specs.declared.call.Want.{Want}
@@ -31,6 +32,10 @@ pub record World : Type 0 where
 
 abbrev pub Sound : World → Type 0
 Sound W = IsSound W.scenario W.store
+
+-- with the savepoints as this note leaves them
+abbrev pub noted : StoreNote → Ledger → Ledger
+noted n L = record L { points = λ u. pointed u (L.points u) n }
 
 -- ---- what may be asked for
 
@@ -116,11 +121,11 @@ module _ (W : World) where
   either_ends E true first second h i = h refl
   either_ends E false first second h i = i refl
 
-  pub live_in_ends : (E : Ledger) (b : Bound) (tx : Option Live) (next : Live → Meaning) (st : State) → bound tx ≡ Some b
-      → ((live : Live) → live.connection ≡ b.connection → live.transaction ≡ b.transaction → Ends E (next live st)) → Ends E (live_in tx next st)
-  live_in_ends E b (Some live) next st is then =
-      then live (ap (λ o. elim o [ Some b ↦ b.connection | None ↦ live.connection ]) is) (ap (λ o. elim o [ Some b ↦ b.transaction | None ↦ live.transaction ]) is)
-  live_in_ends E b None next st is then = absurd cc
+  -- with the live transaction, of which what is said of the ledger's holds
+  pub live_in_ends : (P : Bound → Type 0) (E : Ledger) (b : Bound) (tx : Option Live) (next : Live → Meaning) (st : State) → bound tx ≡ Some b → P b
+      → ((live : Live) → P (record { connection = live.connection; transaction = live.transaction }) → Ends E (next live st)) → Ends E (live_in tx next st)
+  live_in_ends P E b (Some live) next st is may then = then live (subst P (sym (same_Some _ b is)) may)
+  live_in_ends P E b None next st is may then = absurd cc
 
   -- ---- lines and contexts
 
@@ -254,7 +259,7 @@ module _ (W : World) where
     other : (n : StoreNote) → begun (n ∷ []) ≡ [] → ((u : ℕ) → ends u n ≡ false) → ((u : ℕ) → is_end u (store_line n) ≡ false)
         → tallied W.label (opened W.label L st.context) (store_line n) ≡ opened W.label L st.context → st.store ≡ n ∷ drop 1 st.store
         → (Sound W → (u : ℕ) → L.points u ≡ [] → contains L.transactions u ≡ false → pointed u [] n ≡ [])
-        → At (record L { points = λ u. pointed u (L.points u) n }) (hear (Note.Store n) st)
+        → At (noted n L) (hear (Note.Store n) st)
     other n nothing ends_none line_ends_none step first kept =
         hears_store n L L.transactions (λ u. pointed u (L.points u) n) st.context st step
         (reads_other W.scenario W.store L.transactions L.points st.lines st.store n nothing ends_none line_ends_none first kept h.stores) h
@@ -277,7 +282,7 @@ module _ (W : World) where
         by_note n first is = absurd (false≢true is)
 
     pub ask_point : (t : ℕ) (next : Meaning) → (Sound W → contains L.transactions t ≡ true)
-        → ((after : State) → At (record L { points = λ u. pointed u (L.points u) (StoreNote.Point t) }) after → Ends E (next after)) → Ends E (ask (Want.Point t) (λ _. next) st)
+        → ((after : State) → At (noted (StoreNote.Point t) L) after → Ends E (next after)) → Ends E (ask (Want.Point t) (λ _. next) st)
     unfolding ask
     ask_point t next lives then = asked Note.Store E (Want.Point t) (λ _. next) st st.store (stops (Want.Point t) lives) by_note
       where
@@ -291,12 +296,12 @@ module _ (W : World) where
         by_note : (n : StoreNote) → st.store ≡ n ∷ drop 1 st.store → is_answer (Want.Point t) (Note.Store n) ≡ true → Ends E (next (hear (Note.Store n) st))
         by_note (StoreNote.Point v) first is =
             let same = eqb-true v t is in
-            then _ (subst (λ w. At (record L { points = λ u. pointed u (L.points u) (StoreNote.Point w) }) (hear (Note.Store (StoreNote.Point v)) st)) same
+            then _ (subst (λ w. At (noted (StoreNote.Point w) L) (hear (Note.Store (StoreNote.Point v)) st)) same
             (other (StoreNote.Point v) refl (λ u. refl) (λ u. refl) refl first (λ sound u none dead. kept v sound u same dead)))
         by_note n first is = absurd (false≢true is)
 
     pub ask_back : (t : ℕ) (next : Meaning) → (Sound W → (contains L.transactions t ≡ true) × (can_go_back (L.points t) ≡ true))
-        → ((after : State) → At (record L { points = λ u. pointed u (L.points u) (StoreNote.BackTo t) }) after → Ends E (next after)) → Ends E (ask (Want.BackTo t) (λ _. next) st)
+        → ((after : State) → At (noted (StoreNote.BackTo t) L) after → Ends E (next after)) → Ends E (ask (Want.BackTo t) (λ _. next) st)
     unfolding ask
     ask_back t next may then = asked Note.Store E (Want.BackTo t) (λ _. next) st st.store (stops (Want.BackTo t) may) by_note
       where
@@ -306,12 +311,12 @@ module _ (W : World) where
 
         by_note : (n : StoreNote) → st.store ≡ n ∷ drop 1 st.store → is_answer (Want.BackTo t) (Note.Store n) ≡ true → Ends E (next (hear (Note.Store n) st))
         by_note (StoreNote.BackTo v) first is =
-            then _ (subst (λ w. At (record L { points = λ u. pointed u (L.points u) (StoreNote.BackTo w) }) (hear (Note.Store (StoreNote.BackTo v)) st)) (eqb-true v t is)
+            then _ (subst (λ w. At (noted (StoreNote.BackTo w) L) (hear (Note.Store (StoreNote.BackTo v)) st)) (eqb-true v t is)
             (other (StoreNote.BackTo v) refl (λ u. refl) (λ u. refl) refl first (λ sound u none dead. kept v u (v == u) refl)))
         by_note n first is = absurd (false≢true is)
 
     pub ask_release : (t : ℕ) (next : Meaning) → (Sound W → (contains L.transactions t ≡ true) × (is_pointed (L.points t) ≡ true))
-        → ((after : State) → At (record L { points = λ u. pointed u (L.points u) (StoreNote.Release t) }) after → Ends E (next after)) → Ends E (ask (Want.Release t) (λ _. next) st)
+        → ((after : State) → At (noted (StoreNote.Release t) L) after → Ends E (next after)) → Ends E (ask (Want.Release t) (λ _. next) st)
     unfolding ask
     ask_release t next may then = asked Note.Store E (Want.Release t) (λ _. next) st st.store (stops (Want.Release t) may) by_note
       where
@@ -321,7 +326,7 @@ module _ (W : World) where
 
         by_note : (n : StoreNote) → st.store ≡ n ∷ drop 1 st.store → is_answer (Want.Release t) (Note.Store n) ≡ true → Ends E (next (hear (Note.Store n) st))
         by_note (StoreNote.Release v) first is =
-            then _ (subst (λ w. At (record L { points = λ u. pointed u (L.points u) (StoreNote.Release w) }) (hear (Note.Store (StoreNote.Release v)) st)) (eqb-true v t is)
+            then _ (subst (λ w. At (noted (StoreNote.Release w) L) (hear (Note.Store (StoreNote.Release v)) st)) (eqb-true v t is)
             (other (StoreNote.Release v) refl (λ u. refl) (λ u. refl) refl first (λ sound u none dead. kept v u (v == u) refl)))
         by_note n first is = absurd (false≢true is)
 

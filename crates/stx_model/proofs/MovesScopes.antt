@@ -42,7 +42,7 @@ use Rattle.stx_model.specs.Scopes.{suspend, resume, suspended, resumed, Scope, l
 use Rattle.stx_model.specs.Script.{deals, statement, body, unscoped, proxied, invoked, calls_below, invoke, tops, script, calls_of}
 use Rattle.stx_model.proofs.BreaksPieces.{Happens, happens}
 use Rattle.stx_model.proofs.Ledgers.{tallied, tally, nothing_open, one_less, paid, Bound, bound, Ledger, nothing_outstanding, counted, carried, opened, is_end}
-use Rattle.stx_model.proofs.Moves.{World, Sound, IsAlive, At, AtIn, Ends, Keeps, finally_ends, and_then_ends, either_ends, live_in_ends, said, moved, in_context, same_points, ask_take, ask_give, ask_begin, ask_point, ask_back, ask_release, ask_commit, ask_rollback}
+use Rattle.stx_model.proofs.Moves.{World, noted, Sound, IsAlive, At, AtIn, Ends, Keeps, finally_ends, and_then_ends, either_ends, live_in_ends, said, moved, in_context, same_points, ask_take, ask_give, ask_begin, ask_point, ask_back, ask_release, ask_commit, ask_rollback}
 use Rattle.stx_model.proofs.MovesPieces.{carried_ordered, none_active, plain, throws_go, caught_go, alive_at, row_go, marks_go, registers_go, inside, apart, suspends, resumes, left}
 use Rattle.stx_model.proofs.Callable.{listener_body}
 use Rattle.stx_model.proofs.Leaving.{empty_is_bare}
@@ -315,25 +315,29 @@ module _ (W : World) where
 
     -- ---- completion
 
+    -- the newest transaction is this one, with no savepoint
+    abbrev MayEnd : Ledger → List ℕ → Bound → Type 0
+    MayEnd L ts b = (L.transactions ≡ b.transaction ∷ ts) × (Sound W → L.points b.transaction ≡ [])
+
+    abbrev MayGoBack : Ledger → Bound → Type 0
+    MayGoBack L b = Sound W → (contains L.transactions b.transaction ≡ true) × (can_go_back (L.points b.transaction) ≡ true)
+
+    abbrev MayRelease : Ledger → Bound → Type 0
+    MayRelease L b = Sound W → (contains L.transactions b.transaction ≡ true) × (is_pointed (L.points b.transaction) ≡ true)
+
     -- what the actions of a scope's completion do to the ledger, from inside its call to after it
     abbrev Acts : Scope → Ledger → Ledger → List Action → Type 0
     Acts scope M L [] = (st : State) → At W L st → At W (inside W scope.method M) st
     Acts scope M L (RoundBeforeCompletion ∷ rest) = Acts scope M L rest
     Acts scope M L (RoundAfterCommit ∷ rest) = Acts scope M L rest
     Acts scope M L (RoundAfterCompletion committed ∷ rest) = Acts scope M (record L { active = closed scope.owns L.active }) rest
-    Acts scope M L (CommitStore ∷ rest) =
-        (b : Bound) × (ts : List ℕ) × (L.tx ≡ Some b) × (L.transactions ≡ b.transaction ∷ ts) × (Sound W → L.points b.transaction ≡ []) × Acts scope M (record L { transactions = ts }) rest
-    Acts scope M L (RollbackStore ∷ rest) =
-        (b : Bound) × (ts : List ℕ) × (L.tx ≡ Some b) × (L.transactions ≡ b.transaction ∷ ts) × (Sound W → L.points b.transaction ≡ []) × Acts scope M (record L { transactions = ts }) rest
-    Acts scope M L (BackToPoint ∷ rest) =
-        (b : Bound) × (L.tx ≡ Some b) × (Sound W → (contains L.transactions b.transaction ≡ true) × (can_go_back (L.points b.transaction) ≡ true))
-        × Acts scope M (record L { points = λ u. pointed u (L.points u) (StoreNote.BackTo b.transaction) }) rest
-    Acts scope M L (ReleasePoint ∷ rest) =
-        (b : Bound) × (L.tx ≡ Some b) × (Sound W → (contains L.transactions b.transaction ≡ true) × (is_pointed (L.points b.transaction) ≡ true))
-        × Acts scope M (record L { points = λ u. pointed u (L.points u) (StoreNote.Release b.transaction) }) rest
+    Acts scope M L (CommitStore ∷ rest) = (b : Bound) × (L.tx ≡ Some b) × (ts : List ℕ) × MayEnd L ts b × Acts scope M (record L { transactions = ts }) rest
+    Acts scope M L (RollbackStore ∷ rest) = (b : Bound) × (L.tx ≡ Some b) × (ts : List ℕ) × MayEnd L ts b × Acts scope M (record L { transactions = ts }) rest
+    Acts scope M L (BackToPoint ∷ rest) = (b : Bound) × (L.tx ≡ Some b) × MayGoBack L b × Acts scope M (noted (StoreNote.BackTo b.transaction) L) rest
+    Acts scope M L (ReleasePoint ∷ rest) = (b : Bound) × (L.tx ≡ Some b) × MayRelease L b × Acts scope M (noted (StoreNote.Release b.transaction) L) rest
     Acts scope M L (MarkGlobally ∷ rest) = Acts scope M L rest
     Acts scope M L (ThrowUnexpected ∷ rest) = Acts scope M L rest
-    Acts scope M L (GiveBack ∷ rest) = (b : Bound) × (cs : List ℕ) × (L.tx ≡ Some b) × (L.connections ≡ b.connection ∷ cs) × Acts scope M (record L { connections = cs }) rest
+    Acts scope M L (GiveBack ∷ rest) = (b : Bound) × (L.tx ≡ Some b) × (cs : List ℕ) × (L.connections ≡ b.connection ∷ cs) × Acts scope M (record L { connections = cs }) rest
     Acts scope M L (Resumption ∷ rest) = ((st : State) → At W L st → At W (inside W scope.method M) (resumed scope.older st)) × Acts scope M (inside W scope.method M) rest
 
     acts_go : (scope : Scope) (M : Ledger) (actions : List Action) (x : Option ClassNo) (L : Ledger) (st : State) → Acts scope M L actions → At W L st → Ends W M (acts S calls scope actions x st)
@@ -354,35 +358,26 @@ module _ (W : World) where
         finally_ends W (record L { active = closed scope.owns L.active }) M (last_round S calls scope.owns committed st) (λ _. acts S calls scope rest x)
         (last_round_go L scope.owns committed st h)
         (λ _ after h. acts_go scope M rest x (record L { active = closed scope.owns L.active }) after may h)
-    acts_go scope M (CommitStore ∷ rest) x L st (b, ts, is, newest, none, may) h =
-        live_in_ends W M b st.context.tx (λ live. ask (Want.Commit live.transaction) (λ _. acts S calls scope rest x)) st (h.tx ∙ is)
-        (λ live same_c same_t. ask_commit W M L st h live.transaction ts (acts S calls scope rest x) (newest ∙ ap (λ t. t ∷ ts) (sym same_t)) (λ sound. ap L.points same_t ∙ none sound)
-        (λ after h. acts_go scope M rest x (record L { transactions = ts }) after may h))
-    acts_go scope M (RollbackStore ∷ rest) x L st (b, ts, is, newest, none, may) h =
-        live_in_ends W M b st.context.tx (λ live. ask (Want.Rollback live.transaction) (λ _. acts S calls scope rest x)) st (h.tx ∙ is)
-        (λ live same_c same_t. ask_rollback W M L st h live.transaction ts (acts S calls scope rest x) (newest ∙ ap (λ t. t ∷ ts) (sym same_t)) (λ sound. ap L.points same_t ∙ none sound)
-        (λ after h. acts_go scope M rest x (record L { transactions = ts }) after may h))
+    acts_go scope M (CommitStore ∷ rest) x L st (b, is, ts, ends, may) h =
+        live_in_ends W (MayEnd L ts) M b st.context.tx _ st (h.tx ∙ is) ends
+        (λ live ends. ask_commit W M L st h live.transaction ts _ ends.0 ends.1 (λ after h. acts_go scope M rest x (record L { transactions = ts }) after may h))
+    acts_go scope M (RollbackStore ∷ rest) x L st (b, is, ts, ends, may) h =
+        live_in_ends W (MayEnd L ts) M b st.context.tx _ st (h.tx ∙ is) ends
+        (λ live ends. ask_rollback W M L st h live.transaction ts _ ends.0 ends.1 (λ after h. acts_go scope M rest x (record L { transactions = ts }) after may h))
     acts_go scope M (BackToPoint ∷ rest) x L st (b, is, allowed, may) h =
-        live_in_ends W M b st.context.tx (λ live. ask (Want.BackTo live.transaction) (λ _ back. acts S calls scope rest x (with_context (with_global_mark false back.context) back))) st (h.tx ∙ is)
-        (λ live same_c same_t. ask_back W M L st h live.transaction (λ back. acts S calls scope rest x (with_context (with_global_mark false back.context) back))
-        (subst (λ t. Sound W → (contains L.transactions t ≡ true) × (can_go_back (L.points t) ≡ true)) (sym same_t) allowed)
-        (λ after h. acts_go scope M rest x (record L { points = λ u. pointed u (L.points u) (StoreNote.BackTo b.transaction) }) (with_context (with_global_mark false after.context) after) may
-        (remarked false (record L { points = λ u. pointed u (L.points u) (StoreNote.BackTo b.transaction) }) after
-        (subst (λ t. At W (record L { points = λ u. pointed u (L.points u) (StoreNote.BackTo t) }) after) same_t h))))
+        live_in_ends W (λ b. MayGoBack L b × Acts scope M (noted (StoreNote.BackTo b.transaction) L) rest) M b st.context.tx _ st (h.tx ∙ is) (allowed, may)
+        (λ live at. ask_back W M L st h live.transaction _ at.0 (λ after h. acts_go scope M rest x (noted (StoreNote.BackTo live.transaction) L)
+        (with_context (with_global_mark false after.context) after) at.1 (remarked false (noted (StoreNote.BackTo live.transaction) L) after h)))
     acts_go scope M (ReleasePoint ∷ rest) x L st (b, is, allowed, may) h =
-        live_in_ends W M b st.context.tx (λ live. ask (Want.Release live.transaction) (λ _. acts S calls scope rest x)) st (h.tx ∙ is)
-        (λ live same_c same_t. ask_release W M L st h live.transaction (acts S calls scope rest x)
-        (subst (λ t. Sound W → (contains L.transactions t ≡ true) × (is_pointed (L.points t) ≡ true)) (sym same_t) allowed)
-        (λ after h. acts_go scope M rest x (record L { points = λ u. pointed u (L.points u) (StoreNote.Release b.transaction) }) after may
-        (subst (λ t. At W (record L { points = λ u. pointed u (L.points u) (StoreNote.Release t) }) after) same_t h)))
+        live_in_ends W (λ b. MayRelease L b × Acts scope M (noted (StoreNote.Release b.transaction) L) rest) M b st.context.tx _ st (h.tx ∙ is) (allowed, may)
+        (λ live at. ask_release W M L st h live.transaction _ at.0 (λ after h. acts_go scope M rest x (noted (StoreNote.Release live.transaction) L) after at.1 h))
     acts_go scope M (MarkGlobally ∷ rest) x L st may h =
         acts_go scope M rest x L _ may (plain W Line.MarkGlobal L (with_global_mark true st.context) (with_context (with_global_mark true st.context) st) (λ u. refl) refl (remarked true L st h))
     acts_go scope M (ThrowUnexpected ∷ rest) x L st may h =
         acts_go scope M rest (Some UNEXPECTED_ROLLBACK_EXCEPTION) L _ may (throws_go W L UNEXPECTED_ROLLBACK_EXCEPTION st h)
-    acts_go scope M (GiveBack ∷ rest) x L st (b, cs, is, newest, may) h =
-        live_in_ends W M b st.context.tx (λ live. ask (Want.Give live.connection) (λ _. acts S calls scope rest x)) st (h.tx ∙ is)
-        (λ live same_c same_t. ask_give W M L st h live.connection cs (acts S calls scope rest x) (newest ∙ ap (λ c. c ∷ cs) (sym same_c))
-        (λ after h. acts_go scope M rest x (record L { connections = cs }) after may h))
+    acts_go scope M (GiveBack ∷ rest) x L st (b, is, cs, newest, may) h =
+        live_in_ends W (λ b. L.connections ≡ b.connection ∷ cs) M b st.context.tx _ st (h.tx ∙ is) newest
+        (λ live at. ask_give W M L st h live.connection cs _ at (λ after h. acts_go scope M rest x (record L { connections = cs }) after may h))
     acts_go scope M (Resumption ∷ rest) x L st (back, may) h = acts_go scope M rest x (inside W scope.method M) (resumed scope.older st) may (back st h)
 
     -- ---- scopes
@@ -439,7 +434,7 @@ module _ (W : World) where
           ready Ending.Unexpected may = λ st h. h
 
       points : (M : Ledger) (live : Live) (st : State) → bound (Some live) ≡ M.tx → (Sound W → IsAlive M)
-          → At W (record (inside W m M) { points = λ u. pointed u (M.points u) (StoreNote.Point live.transaction) }) st → Ends W M (within S calls m Kind.Point a run st)
+          → At W (noted (StoreNote.Point live.transaction) (inside W m M)) st → Ends W M (within S calls m Kind.Point a run st)
       unfolding completion
       points M live st is alive h =
           in_scope_go (record { method = m; kind = Kind.Point; owns = false; older = None; outer = st.local }) M L st alive ready h
@@ -448,7 +443,7 @@ module _ (W : World) where
           t = live.transaction
 
           L : Ledger
-          L = record (inside W m M) { points = λ u. pointed u (M.points u) (StoreNote.Point live.transaction) }
+          L = noted (StoreNote.Point live.transaction) (inside W m M)
 
           scope : Scope
           scope = record { method = m; kind = Kind.Point; owns = false; older = None; outer = st.local }
@@ -459,24 +454,22 @@ module _ (W : World) where
           lives : Sound W → contains M.transactions t ≡ true
           lives sound = alive_at W M live is (alive sound)
 
-          rolls_back : (rest : List Action) → (Acts scope M (record L { points = λ u. pointed u (pointed u (L.points u) (StoreNote.BackTo t)) (StoreNote.Release t) }) rest)
-              → Acts scope M L (BackToPoint ∷ ReleasePoint ∷ rest)
-          rolls_back rest then = (
-            b,
-            sym is,
-            λ sound. (lives sound, rw (eq-eqb t t refl) refl),
-            (b, sym is, λ sound. (lives sound, rw (eq-eqb t t refl) refl), then),
-          )
+          undone : (st : State) → At W (noted (StoreNote.Release t) (noted (StoreNote.BackTo t) L)) st → At W (inside W m M) st
+          undone st = same_points W (noted (StoreNote.Release t) (noted (StoreNote.BackTo t) L)) M.points st.context st (λ u. gone_back t u (M.points u))
+
+          rolls_back : (rest : List Action) → Acts scope M (noted (StoreNote.Release t) (noted (StoreNote.BackTo t) L)) rest → Acts scope M L (BackToPoint ∷ ReleasePoint ∷ rest)
+          rolls_back rest then =
+              (b, sym is, λ sound. (lives sound, rw (eq-eqb t t refl) refl), (b, sym is, λ sound. (lives sound, rw (eq-eqb t t refl) refl), then))
 
           ready : Ready scope M L
           ready Ending.Commit may = (
             b,
             sym is,
             λ sound. (lives sound, rw (eq-eqb t t refl) refl),
-            λ st h. same_points W (record L { points = λ u. pointed u (L.points u) (StoreNote.Release t) }) M.points st.context st (λ u. released t u (M.points u)) h,
+            λ st. same_points W (noted (StoreNote.Release t) L) M.points st.context st (λ u. released t u (M.points u)),
           )
-          ready Ending.Rollback may = rolls_back [] (λ st h. same_points W (record L { points = λ u. pointed u (pointed u (L.points u) (StoreNote.BackTo t)) (StoreNote.Release t) }) M.points st.context st (λ u. gone_back t u (M.points u)) h)
-          ready Ending.Unexpected may = rolls_back (ThrowUnexpected ∷ []) (λ st h. same_points W (record L { points = λ u. pointed u (pointed u (L.points u) (StoreNote.BackTo t)) (StoreNote.Release t) }) M.points st.context st (λ u. gone_back t u (M.points u)) h)
+          ready Ending.Rollback may = rolls_back [] undone
+          ready Ending.Unexpected may = rolls_back (ThrowUnexpected ∷ []) undone
 
       -- a fresh scope, on connection c in transaction t
       fresh_go : (M : Ledger) (older : Context) (owns : Bool) (c t : ℕ) (st : State) → bound older.tx ≡ M.tx → is_active older ≡ M.active → (Sound W → M.points t ≡ [])
@@ -504,9 +497,9 @@ module _ (W : World) where
           back = resumes W m older M (Some b) (closed owns owns) tx_is active_is (closed_itself owns)
 
           ready : Ready scope M L
-          ready Ending.Commit may = (b, M.transactions, refl, refl, unpointed, (b, M.connections, refl, refl, (back, λ st h. h)))
-          ready Ending.Rollback may = (b, M.transactions, refl, refl, unpointed, (b, M.connections, refl, refl, (back, λ st h. h)))
-          ready Ending.Unexpected may = (b, M.transactions, refl, refl, unpointed, (b, M.connections, refl, refl, (back, λ st h. h)))
+          ready Ending.Commit may = (b, refl, M.transactions, (refl, unpointed), (b, refl, M.connections, refl, (back, λ st h. h)))
+          ready Ending.Rollback may = (b, refl, M.transactions, (refl, unpointed), (b, refl, M.connections, refl, (back, λ st h. h)))
+          ready Ending.Unexpected may = (b, refl, M.transactions, (refl, unpointed), (b, refl, M.connections, refl, (back, λ st h. h)))
 
       -- an empty scope, which goes back to what was there
       empty_go : (M L : Ledger) (owns : Bool) (older : Option Context) (st : State) → (owns ≡ true → L.active ≡ false) → (Sound W → IsAlive L)
