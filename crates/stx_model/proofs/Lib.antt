@@ -51,3 +51,4 @@ pub mod BreaksPieces
 pub mod CallableLaw
 pub mod BreaksLaw
 pub mod Sorting
+pub mod WantedCalls

@@ -19,6 +19,7 @@ use Rattle.stx_base.specs.Stores.{store_proper}
 use Rattle.stx_base.proofs.HistoryLaws.{made}
 use Rattle.stx_base.proofs.LegalLaws.{PoolLegal-push, StoreLegal-push, PoolFits-reply, StoreFits-reply}
 use Rattle.stx_base.proofs.NoteLaws.{pool_suits, store_suits}
+use Rattle.stx_base.proofs.Results.{either_way, if_ok}
 use Rattle.stx_pool.specs.Pool.{Pool, PoolCallAnswered}
 use Rattle.stx_store.specs.Store.{Store, StoreCallAnswered}
 use Rattle.stx_shared.specs.Logs.{pool_maker, store_maker, NotesPoolCall, NotesStoreCall, IsPoolCallProper, IsStoreCallProper}
@@ -33,15 +34,6 @@ suc_test a c = elim (eqb_tells a c) [
 -- the notes of the seat c + 1 are those of client c
 pub notes_by : {E N : Type 0} (client : E → ℕ) (note : E → N) (H : List E) (c : ℕ) → map note (made_by (λ e. suc (client e)) (suc c) H) ≡ made client note H c
 notes_by client note H c = λ i. map note (filter (λ e. suc_test (client e) c i) H)
-
-if_ok : {T E : Type 0} {A B : T → Type 0} (r : Result T E) → ((x : T) → A x → B x) → IfOk r A → IfOk r B
-if_ok (Ok x) more a = more x a
-if_ok (Err e) more a = a
-
--- what holds where the call was answered, and also where nothing changed, holds in the end
-either_way : {T E : Type 0} {A : T → Type 0} {B P : Type 0} (r : Result T E) → IfOk r A → OnErr r B → ((x : T) → A x → P) → (B → P) → P
-either_way (Ok x) a b answered none = answered x a
-either_way (Err e) a b answered none = none b
 
 before_suc : (who c : ℕ) → who ≡ suc c → who - 1 ≡ c
 before_suc who c is = omega (arith, is)
