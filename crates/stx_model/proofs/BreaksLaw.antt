@@ -65,7 +65,7 @@ gone (Want.Give c) st end n none here later =
 gone w st end n none here later =
     gone_of_store st.store end.store n none here (λ m same. (subst (λ n. IsLater end (hear n (followed end st))) same later).2)
 
-no_note : (w : Want) (st : State) → st.pool ≡ [] → st.store ≡ [] → unread w st ≡ None
+pub no_note : (w : Want) (st : State) → st.pool ≡ [] → st.store ≡ [] → unread w st ≡ None
 no_note Want.Take st no_pool no_store = ap (λ ns. option_map Note.Pool (slice_get ns 0)) no_pool
 no_note (Want.Give c) st no_pool no_store = ap (λ ns. option_map Note.Pool (slice_get ns 0)) no_pool
 no_note w st no_pool no_store = ap (λ ns. option_map Note.Store (slice_get ns 0)) no_store

@@ -140,7 +140,7 @@ none_started S k true = tt
 none_started S k false = tt
 
 -- what is resumed is there again
-resume_context : (older : Context) (st : State) → (resume older st).context ≡ older
+pub resume_context : (older : Context) (st : State) → (resume older st).context ≡ older
 resume_context older st =
     said_each_context Line.Resume (ordered_labels older.syncs) (say_bind older.tx (with_context older st)) ∙ bind_context older.tx (with_context older st)
 
@@ -187,11 +187,11 @@ Opens Kind.Point older live out = (live ≡ true) × (live ≡ out)
 Opens Kind.Empty older live out = live_again older live ≡ out
 
 -- an empty scope never ends unexpectedly
-abbrev Happens : Kind → Ending → Type 0
+abbrev pub Happens : Kind → Ending → Type 0
 Happens Kind.Empty Ending.Unexpected = ⊥
 Happens _ _ = ⊤
 
-happens : (kind : Kind) (rolls local : Bool) (context : Context) → Happens kind (ending kind rolls local context)
+pub happens : (kind : Kind) (rolls local : Bool) (context : Context) → Happens kind (ending kind rolls local context)
 happens Kind.Fresh rolls local context = tt
 happens Kind.Join rolls local context = tt
 happens Kind.Point rolls local context = tt

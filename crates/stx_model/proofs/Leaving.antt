@@ -288,7 +288,7 @@ module _ (S : Scenario) (calls : Calls) (m : MethodNo) (outer : Option Bool) (ow
 -- ---- what each opening tells of its context
 
 -- no transaction is live, and where it owns no synchronisation is active
-empty_is_bare : (settings : Settings) (a : TxAttr) (context : Context) (owns : Bool) → opening settings a context ≡ Opening.Empty false owns
+pub empty_is_bare : (settings : Settings) (a : TxAttr) (context : Context) (owns : Bool) → opening settings a context ≡ Opening.Empty false owns
     → (context.tx ≡ None) × (owns ≡ true → context.syncs ≡ None)
 unfolding opening
 empty_is_bare settings a context owns is = by context.tx refl a.propagation is

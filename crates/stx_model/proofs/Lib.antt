@@ -28,9 +28,6 @@ pub mod Keeping
 pub mod Leaving
 pub mod FlatForm
 pub mod FlatTransfer
-pub mod FlatWeight
-pub mod ProperNotes
-pub mod FlatProper
 pub mod EntriesLaw
 pub mod PlayedLaw
 pub mod FlatGrowth
@@ -51,4 +48,12 @@ pub mod BreaksPieces
 pub mod CallableLaw
 pub mod BreaksLaw
 pub mod Sorting
+pub mod Ledgers
+pub mod Moves
+pub mod MovesPieces
+pub mod MovesScopes
+pub mod BracketLaws
+pub mod ProperLaws
+pub mod Turns
+pub mod PlayedFaithful
 pub mod WantedCalls

@@ -45,7 +45,7 @@ scripts_grow S c pool p store s = grows (script S c pool store) (longer_script S
 
 -- ---- answers
 
-none_at_end : {X : Type 0} (rest all : List X) → all ≡ [] → IsEndOf rest all → rest ≡ []
+pub none_at_end : {X : Type 0} (rest all : List X) → all ≡ [] → IsEndOf rest all → rest ≡ []
 none_at_end rest all none (first, is) = by_first first (sym none ∙ is)
   where
     by_first : (first : List _) → [] ≡ first ++ rest → rest ≡ []

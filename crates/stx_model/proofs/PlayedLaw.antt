@@ -1,4 +1,4 @@
--- When histories are faithful, where the forms are built: they are legal, and each client's script over its own notes is done and has read them all.
+-- When histories are faithful: they are legal, and each client's script over its own notes is done and has read them all.
 use Rattle.std.proofs.Common.{◌≡◌, ℕ, ◌<◌, true, false, not, ◌&&◌, ◌||◌, ◌==◌, List, [], ◌∷◌, ◌++◌, map, length, Some, refl, sym, ap, ◌∙◌, subst, inl, inr, arith}
 use Rattle.std.specs.Prelude.{slice_get}
 use Rattle.std.specs.List.{list_any}
@@ -14,21 +14,21 @@ use Rattle.stx_base.specs.declared.history.PoolEntry.{PoolEntry}
 use Rattle.stx_base.specs.declared.history.StoreNote.{StoreNote}
 use Rattle.stx_base.specs.declared.history.StoreEntry.{StoreEntry}
 use Rattle.stx_base.specs.declared.line.Line.{Line}
-use Rattle.stx_model.specs.Faithful.{IsBalanced, IsBack, Faithful, connection_bracket}
+use Rattle.stx_model.specs.Brackets.{IsBalanced, connection_bracket}
+use Rattle.stx_model.specs.Faithful.{IsBack, Faithful}
 use Rattle.stx_base.specs.Histories.{pool_notes, store_notes, pool_notes_of, store_notes_of}
 use Rattle.stx_base.specs.Legal.{PoolFits, PoolLegal, StoreFits, StoreLegal}
 use Rattle.stx_model.specs.Meanings.{Result, Over, Stops, Breaks, state_of, stop_of}
 use Rattle.stx_model.specs.Played.{Turns, script_so_far, want_so_far, lines_so_far, outcome_of}
 use Rattle.stx_base.specs.Pools.{contains, out_after, out}
 use Rattle.stx_model.specs.Reads.{ReadsAll}
-use Rattle.stx_model.specs.Built.{IsBuilt}
 use Rattle.stx_base.specs.Stores.{store_facts, begun, ends, live, is_live}
 use Rattle.stx_model.proofs.FreshLaw.{own_notes_fresh}
 use Rattle.stx_base.proofs.HistoryLaws.{begun-push, is_live-parts, none_of, store_notes-push, store_notes_of-push, store_notes_of-push_other, pool_notes_of-push_other}
 use Rattle.stx_base.proofs.LegalLaws.{PoolLegal-along, StoreLegal-along}
 use Rattle.stx_base.proofs.PoolLaws.{out-push, own_out-push, contains-without_other, without-left}
-use Rattle.stx_model.proofs.FlatProper.{balanced, gives_all_back}
-use Rattle.stx_model.proofs.ProperNotes.{none_live}
+use Rattle.stx_model.proofs.BracketLaws.{balanced}
+use Rattle.stx_model.proofs.ProperLaws.{gives_all_back, none_live}
 use Rattle.stx_model.proofs.SerialLaw.{journal_serial}
 
 -- ---- what is out has an owner
@@ -171,7 +171,7 @@ lines_at S t c below =
 
 -- ---- the whole
 
-module _ (S : Scenario) (built : IsBuilt S) (t : Turns) (pool_legal : PoolLegal (length S.clients) S.settings.pool t.pool) (store_legal : StoreLegal (length S.clients) (store_facts S) t.store)
+module _ (S : Scenario) (t : Turns) (pool_legal : PoolLegal (length S.clients) S.settings.pool t.pool) (store_legal : StoreLegal (length S.clients) (store_facts S) t.store)
     (reads_all : (c : ℕ) → c < length S.clients → ReadsAll S c (pool_notes_of t.pool c) (store_notes_of t.store c))
     (done : (c : ℕ) → c < length S.clients → want_so_far S t c ≡ Some Want.Done) where
   stops_done : (c : ℕ) → c < length S.clients → script_so_far S t c ≡ Stops Want.Done (state_of (script_so_far S t c))
@@ -181,7 +181,7 @@ module _ (S : Scenario) (built : IsBuilt S) (t : Turns) (pool_legal : PoolLegal 
   own_back c below =
       let read = reads_all c below in
       let fresh = own_notes_fresh (length S.clients) c in
-      let back = gives_all_back S built c (pool_notes_of t.pool c) (store_notes_of t.store c) (state_of (script_so_far S t c)) (stops_done c below) read.pool_read read.store_read in
+      let back = gives_all_back S c (pool_notes_of t.pool c) (store_notes_of t.store c) (state_of (script_so_far S t c)) (stops_done c below) read.pool_read read.store_read in
       (back.0 (fresh.0 S.settings.pool t.pool pool_legal), back.1 (fresh.1 (store_facts S) t.store store_legal))
 
   calls_balanced : (c : ℕ) (lines : List Line) → slice_get (outcome_of S t).lines c ≡ Some lines → IsBalanced (map connection_bracket lines)
@@ -190,7 +190,7 @@ module _ (S : Scenario) (built : IsBuilt S) (t : Turns) (pool_legal : PoolLegal 
       let below : c < length S.clients = omega (arith, length-map-range_with_len (lines_so_far S t) 0 (length S.clients)) in
       let same : lines_so_far S t c ≡ lines = same_Some (lines_so_far S t c) lines (sym (lines_at S t c below) ∙ is) in
       subst (λ ls. IsBalanced (map connection_bracket ls)) same
-      (balanced S built c (pool_notes_of t.pool c) (store_notes_of t.store c) (state_of (script_so_far S t c)) (stops_done c below)).0
+      (balanced S c (pool_notes_of t.pool c) (store_notes_of t.store c) (state_of (script_so_far S t c)) (stops_done c below)).0
 
   is_back : IsBack (outcome_of S t)
   is_back = record {
@@ -200,12 +200,12 @@ module _ (S : Scenario) (built : IsBuilt S) (t : Turns) (pool_legal : PoolLegal 
   }
 
 -- legal histories are faithful once each client's script is done and has read its notes
-pub faithful_if_done : (S : Scenario) → IsBuilt S → (t : Turns)
+pub faithful_if_done : (S : Scenario) (t : Turns)
     → PoolLegal (length S.clients) S.settings.pool t.pool → StoreLegal (length S.clients) (store_facts S) t.store
     → ((c : ℕ) → c < length S.clients → ReadsAll S c (pool_notes_of t.pool c) (store_notes_of t.store c))
     → ((c : ℕ) → c < length S.clients → want_so_far S t c ≡ Some Want.Done)
     → Faithful S (outcome_of S t)
-faithful_if_done S built t pool_legal store_legal reads_all done = record {
+faithful_if_done S t pool_legal store_legal reads_all done = record {
   pool_legal = pool_legal;
   store_legal = store_legal;
   one_trace_each = length-map-range_with_len (lines_so_far S t) 0 (length S.clients);
@@ -216,5 +216,5 @@ faithful_if_done S built t pool_legal store_legal reads_all done = record {
     lines = lines_at S t c below;
   };
   serial = journal_serial (length S.clients) (store_facts S) t.store store_legal;
-  back = is_back S built t pool_legal store_legal reads_all done;
+  back = is_back S t pool_legal store_legal reads_all done;
 }

@@ -3,6 +3,7 @@ use Rattle.std.proofs.Common.{◌≡◌, ℕ, zero, suc, ◌+◌, ◌*◌, ◌�
 use Rattle.std.specs.Prelude.{◌-◌, slice_get, unwrap_or}
 use Rattle.std.specs.List.{sum_by}
 use Rattle.std.specs.Option.{option_and_then}
+use Rattle.std.proofs.Math.Nat.{le-mul_of_pos_right}
 use Rattle.std.proofs.lemmas.List.{length-drop}
 use Rattle.std.proofs.lemmas.List.Sums.{sum_by-cons, sum-map}
 use Rattle.std.proofs.lemmas.Option.{slice_get_within}
@@ -17,13 +18,10 @@ use Rattle.stx_base.specs.Attributes.{method_attribute}
 use Rattle.stx_base.specs.Histories.{sum_below}
 use Rattle.stx_base.specs.Weight.{InRange, HasNoCycle, one, body_in, body_of, leads, statement_cost, cost, total, client_weight, weight}
 use Rattle.stx_base.proofs.WeightLaws.{acyclic_from, cost_is}
-use Rattle.stx_model.specs.Built.{IsBuilt}
 use Rattle.stx_model.specs.Laws.{ReadsWithin}
 use Rattle.stx_model.specs.Meanings.{State, hear}
 use Rattle.stx_model.specs.Reads.{count_unread, notes_read}
 use Rattle.stx_model.specs.Script.{calls_of}
-use Rattle.stx_model.proofs.FlatTransfer.{Kinds, There as Here, Past as Gone, kind_of, body_built}
-use Rattle.stx_model.proofs.FlatWeight.{size_is, size_within, statements_built}
 use Rattle.stx_model.proofs.Spending.{Measure}
 use Rattle.stx_model.proofs.ScriptCosts.{IsCosted, There, Past, script_costs}
 
@@ -65,20 +63,15 @@ costed M S range acyclic gone m = by (slice_get S.methods m.0) refl
         let is = cost_is S m (acyclic_from S range acyclic) (slice_get_within S.methods m.0 method there) in
         There (omega (arith, ap M.weigh is, M.weighs_both one (total (map (statement_cost S (cost S)) (body_of S m)))))
 
--- where the forms are built it is one and one for each statement
-costed_built : (S : Scenario) → IsBuilt S → (given : ℕ) (m : MethodNo) → IsCosted (notes given) S (cost S) m
-unfolding notes
-costed_built S built given m = by (kind_of S built m)
-  where
-    by : Kinds S m → IsCosted (notes given) S (cost S) m
-    by (Here below a is required) = There (omega (arith, size_is S built m below, statements_built S (cost S) (body_of S m) (body_built S built m)))
-    by (Gone none nothing) = Past nothing none (omega arith)
-
 -- ---- scripts
 
 eight_each : (of : MethodNo → Cost) (calls : List MethodNo) → sum_by (λ m. 0 + 8 * (of m).size) calls ≡ 8 * (total (map of calls)).size
 eight_each of [] = refl
 eight_each of (m ∷ calls) = omega (arith, eight_each of calls, sum_by-cons (λ m. 0 + 8 * (of m).size) m calls)
+
+-- sizes are weighed at least once
+size_within : (c : Cost) → c.size ≤ c.size * (1 + c.registrations)
+size_within c = le-mul_of_pos_right c.size (omega arith)
 
 -- the script of one client reads at most eight notes for each unit of its calls' weight
 script_reads : (S : Scenario) → ((given : ℕ) (m : MethodNo) → IsCosted (notes given) S (cost S) m) → (c : ℕ) (pool : List PoolNote) (store : List StoreNote)
@@ -89,8 +82,10 @@ script_reads S costs c pool store =
     let once = size_within (total (map (cost S) (calls_of S c))) in
     omega (arith, reads, once, eight_each (cost S) (calls_of S c))
 
-pub script_reads_built : (S : Scenario) → IsBuilt S → (c : ℕ) (pool : List PoolNote) (store : List StoreNote) → notes_read S c pool store ≤ 8 * client_weight (cost S) (calls_of S c)
-script_reads_built S built = script_reads S (costed_built S built)
+pub client_reads : (S : Scenario) → InRange S → HasNoCycle (leads S) (length S.methods) → (c : ℕ) (pool : List PoolNote) (store : List StoreNote)
+    → notes_read S c pool store ≤ 8 * client_weight (cost S) (calls_of S c)
+unfolding notes
+client_reads S range acyclic = script_reads S (λ given. costed (notes given) S range acyclic (λ m past. omega arith))
 
 -- ---- all clients together
 
@@ -118,6 +113,6 @@ unfolding notes
 reads_within S range acyclic pool store =
     let of : List MethodNo → ℕ = client_weight (cost S) in
     let each : sum_below (length S.clients) (λ c. notes_read S c (pool c) (store c)) ≤ 8 * sum_below (length S.clients) (λ c. of (calls_of S c)) =
-    sum_below_within (length S.clients) 8 (λ c. notes_read S c (pool c) (store c)) (λ c. of (calls_of S c)) (λ c. script_reads S (λ given. costed (notes given) S range acyclic (λ m past. omega arith)) c (pool c) (store c)) in
+    sum_below_within (length S.clients) 8 (λ c. notes_read S c (pool c) (store c)) (λ c. of (calls_of S c)) (λ c. client_reads S range acyclic c (pool c) (store c)) in
     let all : sum_below (length S.clients) (λ c. of (calls_of S c)) ≡ weight S = sum_below_items of [] S.clients ∙ sym (sum-map of S.clients) in
     omega arith

@@ -1,29 +1,28 @@
 -- Worked rows: notes that are fresh and notes that aren't, the law on proper wants at work, a run over stale notes whose
--- want isn't proper, and lines that aren't balanced.
+-- want isn't proper, lines that aren't balanced, and labels that aren't resumed in order or completed once.
 use Rattle.std.proofs.Common.{◌≡◌, ℕ, pos, ◌≤◌, true, false, List, [], ◌∷◌, map, Some, refl, sym, arith, IsTrue}
 use Rattle.std.specs.Prelude.{◌++◌}
 use Rattle.std.specs.List.{IsDistinct, filter_map}
 use Rattle.std.proofs.lemmas.Bool.{false≢true}
-use Rattle.std.proofs.lemmas.List.Elements.{All-from_recursion}
 use Rattle.stx_scenario.specs.declared.scenario.Scenario.{Scenario}
 use Rattle.stx_scenario.specs.declared.scenario.Propagation.{Propagation}
 use Rattle.stx_base.specs.declared.call.Want.{Want}
 use Rattle.stx_base.specs.declared.history.Access.{Access}
 use Rattle.stx_base.specs.declared.history.PoolNote.{PoolNote}
 use Rattle.stx_base.specs.declared.history.StoreNote.{StoreNote}
+use Rattle.stx_base.specs.declared.line.Label.{Label}
 use Rattle.stx_base.specs.declared.line.Line.{Line}
-use Rattle.stx_base.specs.Limits.{most_weight}
 use Rattle.stx_base.specs.Stores.{store_proper}
-use Rattle.stx_base.specs.Weight.{body_of, weight, leads, longest, cost_within}
-use Rattle.stx_model.specs.Built.{is_built, IsBuiltMethod, IsBuilt}
+use Rattle.stx_base.specs.Valid.{IsInOrder}
 use Rattle.stx_model.specs.Contexts.{Context}
-use Rattle.stx_model.specs.Faithful.{IsBalanced, connection_bracket, transaction_bracket}
+use Rattle.stx_model.specs.Brackets.{IsBalanced, connection_bracket, transaction_bracket, IsResumedInOrder, IsCompletedOnce, top_calls}
+use Rattle.stx_model.proofs.BracketLaws.{once_if_settled}
 use Rattle.stx_model.specs.Reads.{TakesFresh, BeginsFresh}
-use Rattle.stx_model.proofs.FlatProper.{wants_proper}
+use Rattle.stx_model.proofs.ProperLaws.{wants_proper}
 use Rattle.stx_model.proofs.FlatRows.{writes_and_reads, written_and_read}
 use Rattle.stx_model.proofs.NoteRows.{Stands}
 use Rattle.stx_model.proofs.Small.{m, a, pool_note, store_note}
-use Rattle.stx_model.proofs.Traces.{top, call, open_fresh_sync, take, give, begin}
+use Rattle.stx_model.proofs.Traces.{top, call, leave, open_fresh_sync, take, give, begin, suspend, resume, register, after_completion_committed}
 
 -- ---- fresh notes
 
@@ -56,33 +55,27 @@ pub second_wants : (t : ℕ) → Stands twice (second_begun t) (write_of t) (bou
 unfolding Stands
 second_wants t = refl
 
-pub twice_is_built : IsBuilt twice
-twice_is_built = record {
-  mode = refl;
-  methods = All-from_recursion (IsBuiltMethod twice) twice.methods
-      (record { tx = refl; body = All-from_recursion (λ s. is_built s ≡ true) (body_of twice m) (refl, (refl, tt)) }, tt);
-}
-
-pub twice_is_light : weight twice ≤ most_weight
-unfolding leads longest cost_within
-twice_is_light = omega arith
-
 pub begun_anew : BeginsFresh (notes 2)
 unfolding IsDistinct
 begun_anew = ((refl, tt), (tt, tt))
 
--- the law's premises can be met
-pub law_applies : IsTrue (store_proper (notes 2) (write_of 2))
+-- the law at work: in a valid scenario that access is proper
+pub law_applies : IsInOrder twice → IsTrue (store_proper (notes 2) (write_of 2))
 unfolding Stands
-law_applies = wants_proper twice twice_is_built twice_is_light 0 (filter_map pool_note (second_begun 2)) (notes 2) (write_of 2)
+law_applies valid = wants_proper twice valid 0 (filter_map pool_note (second_begun 2)) (notes 2) (write_of 2)
     (record { lines = second_begun 2; context = bound 2; local = Some false; pool = []; store = [] }) (second_wants 2) refl refl begun_anew
+
+-- and so it is, as it computes
+pub new_is_proper : store_proper (notes 2) (write_of 2) ≡ true
+unfolding store_proper
+new_is_proper = refl
 
 -- a number may not be begun again, not even after its end
 pub begun_twice : ¬ BeginsFresh (notes 1)
 unfolding IsDistinct
 begun_twice h = false≢true (sym h.0.0)
 
--- over those notes the law's other premises hold, but the access names a transaction that has ended
+-- over those notes the access names a transaction that has ended
 pub stale_is_improper : store_proper (notes 1) (write_of 1) ≡ false
 unfolding store_proper
 stale_is_improper = refl
@@ -102,3 +95,38 @@ kept_is_unbalanced h = cc
 -- nor is a transaction that no line ends
 pub unended_is_unbalanced : ¬ IsBalanced (map transaction_bracket (top 0 ∷ begin 1 ∷ []))
 unended_is_unbalanced h = cc
+
+-- ---- suspension, and completions
+
+abbrev first_sync : Label
+first_sync = Label.Sync (record { 0 = 0 })
+
+abbrev second_sync : Label
+second_sync = Label.Sync (record { 0 = 1 })
+
+abbrev suspending : List Line → List Line
+suspending inside = top 0 ∷ call m Propagation.RequiresNew ∷ suspend first_sync ∷ suspend second_sync ∷ inside
+
+pub resumed_in_turn : IsResumedInOrder (suspending (resume first_sync ∷ resume second_sync ∷ leave m ∷ []))
+resumed_in_turn = refl
+
+pub resumed_out_of_turn : ¬ IsResumedInOrder (suspending (resume second_sync ∷ resume first_sync ∷ leave m ∷ []))
+resumed_out_of_turn h = cc
+
+-- a call that leaves with a label suspended
+pub left_suspended : ¬ IsResumedInOrder (suspending (resume first_sync ∷ leave m ∷ []))
+left_suspended h = cc
+
+pub completed_for_each : IsCompletedOnce first_sync (top 0 ∷ register first_sync ∷ after_completion_committed first_sync ∷ [])
+completed_for_each = once_if_settled first_sync (top 0 ∷ register first_sync ∷ after_completion_committed first_sync ∷ []) refl
+
+-- a completion for a label that isn't registered, or not yet
+pub completed_for_none : ¬ IsCompletedOnce first_sync (top 0 ∷ register second_sync ∷ after_completion_committed first_sync ∷ [])
+completed_for_none h = let no : 1 ≡ 0 = h.all in omega (arith, no)
+
+pub completed_early : ¬ IsCompletedOnce first_sync (after_completion_committed first_sync ∷ register first_sync ∷ [])
+completed_early h = let no : 1 ≤ 0 = h.never_more (after_completion_committed first_sync ∷ []) (register first_sync ∷ []) refl in omega (arith, no)
+
+-- each top-level call is one list of lines
+pub two_top_calls : top_calls (top 0 ∷ leave m ∷ top 1 ∷ leave m ∷ []) ≡ (top 0 ∷ leave m ∷ []) ∷ (top 1 ∷ leave m ∷ []) ∷ []
+two_top_calls = refl

@@ -23,7 +23,8 @@ use Rattle.stx_base.specs.Legal.{PoolLegal, StoreLegal}
 use Rattle.stx_base.specs.Lines.{line_words}
 use Rattle.stx_base.specs.Report.{printed, clients_text, lines_text, journal_text, final_rows}
 use Rattle.stx_model.specs.Meanings.{state_of, stop_of}
-use Rattle.stx_model.specs.Faithful.{Faithful, IsPlayedOut, IsBalanced, connection_bracket}
+use Rattle.stx_model.specs.Brackets.{IsBalanced, connection_bracket}
+use Rattle.stx_model.specs.Faithful.{Faithful, IsPlayedOut}
 use Rattle.stx_model.proofs.SerialLaw.{journal_serial}
 use Rattle.stx_model.proofs.Small.{a, k, pool_note, store_note, Says}
 use Rattle.stx_model.proofs.FlatRows.{writes_and_reads, written_and_read, rivals, written, refused_beside, a_transaction_writes_reads_and_commits}

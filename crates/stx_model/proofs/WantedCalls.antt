@@ -10,11 +10,11 @@ use Rattle.stx_base.specs.declared.history.StoreNote.{StoreNote}
 use Rattle.stx_base.specs.Notes.{pool_call_want, store_call_want}
 use Rattle.stx_base.specs.Pools.{pool_proper}
 use Rattle.stx_base.specs.Stores.{store_proper}
+use Rattle.stx_base.specs.Valid.{IsInOrder}
 use Rattle.stx_model.specs.Meanings.{Result, Over, Stops, Breaks, state_of, stop_of}
-use Rattle.stx_model.specs.Playable.{IsPlayable}
 use Rattle.stx_model.specs.Reads.{BeginsFresh, IsProperAfter, ReadsAll, TakesFresh}
 use Rattle.stx_model.specs.Script.{script}
-use Rattle.stx_model.proofs.FlatProper.{wants_proper}
+use Rattle.stx_model.proofs.ProperLaws.{wants_proper}
 
 stops_with : (r : Result) (w : Want) → stop_of r ≡ Some w → r ≡ Stops w (state_of r)
 stops_with (Over x st) w is = cc
@@ -23,13 +23,13 @@ stops_with (Stops v st) w is =
     ap (λ v. Stops v st) same
 stops_with (Breaks st) w is = cc
 
-module _ (S : Scenario) (playable : IsPlayable S) (c : ℕ) (pool : List PoolNote) (store : List StoreNote) (read : ReadsAll S c pool store) where
+module _ (S : Scenario) (order : IsInOrder S) (c : ℕ) (pool : List PoolNote) (store : List StoreNote) (read : ReadsAll S c pool store) where
   abbrev Wants : Want → Type 0
   Wants w = stop_of (script S c pool store) ≡ Some w
 
   proper_after : (w : Want) → Wants w → IsProperAfter pool store w
   proper_after w is =
-      wants_proper S playable.built playable.order.light c pool store w (state_of (script S c pool store)) (stops_with (script S c pool store) w is) read.pool_read read.store_read
+      wants_proper S order c pool store w (state_of (script S c pool store)) (stops_with (script S c pool store) w is) read.pool_read read.store_read
 
   pub proper_pool : TakesFresh pool → (call : PoolCall) → Wants (pool_call_want call) → IsTrue (pool_proper pool (pool_call_want call))
   proper_pool fresh PoolCall.Take is = proper_after Want.Take is fresh

@@ -1,6 +1,5 @@
 -- When an outcome is a faithful run of a scenario.
-use Rattle.std.specs.Prelude.{◌≡◌, ℕ, ◌<◌, ◌==◌, if◌then◌else◌, List, [], ◌∷◌, map, length, Option, Some, None, slice_get}
-use Rattle.std.specs.List.{fold}
+use Rattle.std.specs.Prelude.{◌≡◌, ℕ, ◌<◌, List, [], map, length, Some, slice_get}
 use Rattle.stx_scenario.specs.declared.scenario.Scenario.{Scenario}
 use Rattle.stx_base.specs.declared.call.Want.{Want}
 use Rattle.stx_base.specs.declared.line.Line.{Line}
@@ -10,6 +9,7 @@ use Rattle.stx_base.specs.Pools.{out}
 use Rattle.stx_base.specs.Stores.{live, store_facts}
 use Rattle.stx_base.specs.Legal.{PoolLegal, StoreLegal}
 use Rattle.stx_base.specs.Serial.{Serial}
+use Rattle.stx_model.specs.Brackets.{IsBalanced, connection_bracket}
 use Rattle.stx_model.specs.Meanings.{Result, state_of, stop_of}
 use Rattle.stx_model.specs.Script.{script}
 
@@ -25,44 +25,6 @@ pub record IsPlayedOut (S : Scenario) (O : Outcome) (c : ℕ) : Type 0 where
   pub pool_read : (state_of (script_in S O c)).pool ≡ []
   pub store_read : (state_of (script_in S O c)).store ≡ []
   pub lines : slice_get O.lines c ≡ Some (state_of (script_in S O c)).lines
-
--- ---- brackets
-
--- what a line does to what is open: it opens or closes the bracket of a number, or finds all of them closed
-pub data Bracket : Type 0 where
-  Opens : ℕ → Bracket
-  Closes : ℕ → Bracket
-  AllClosed : Bracket
-  Neither : Bracket
-
--- what is open after a bracket, the innermost first; none once a bracket was wrong
-abbrev pub open_after : Option (List ℕ) → Bracket → Option (List ℕ)
-open_after (Some inner) (Opens n) = Some (n ∷ inner)
-open_after (Some (m ∷ outer)) (Closes n) = if m == n then Some outer else None
-open_after (Some []) (Closes n) = None
-open_after (Some []) AllClosed = Some []
-open_after (Some (_ ∷ _)) AllClosed = None
-open_after (Some inner) Neither = Some inner
-open_after None _ = None
-
--- each bracket is closed, the innermost first
-abbrev pub IsBalanced : List Bracket → Type 0
-IsBalanced brackets = fold open_after (Some []) brackets ≡ Some []
-
--- a connection is taken and given; a top-level call begins with nothing taken
-abbrev pub connection_bracket : Line → Bracket
-connection_bracket (Line.Take (Some c)) = Opens c
-connection_bracket (Line.Give c) = Closes c
-connection_bracket (Line.Top k) = AllClosed
-connection_bracket _ = Neither
-
--- a transaction begins, and commits or rolls back; a top-level call begins with none open
-abbrev pub transaction_bracket : Line → Bracket
-transaction_bracket (Line.Begin t) = Opens t
-transaction_bracket (Line.Commit t n) = Closes t
-transaction_bracket (Line.Rollback t) = Closes t
-transaction_bracket (Line.Top k) = AllClosed
-transaction_bracket _ = Neither
 
 -- ---- the whole
 

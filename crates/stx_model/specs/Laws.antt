@@ -1,5 +1,6 @@
 -- The laws that public functions carry.
-use Rattle.std.specs.Prelude.{◌≡◌, ℕ, ◌+◌, ◌*◌, ◌<◌, ◌≤◌, List, [], ◌++◌, map, length, true, Some}
+use Rattle.std.specs.Prelude.{◌≡◌, ℕ, ◌+◌, ◌*◌, ◌<◌, ◌≤◌, List, [], ◌∷◌, ◌++◌, map, length, true, false, Some}
+use Rattle.std.specs.List.{All, list_any}
 use Rattle.stx_scenario.specs.declared.scenario.Scenario.{Scenario}
 use Rattle.stx_base.specs.declared.facts.StoreFacts.{StoreFacts}
 use Rattle.stx_base.specs.declared.call.Want.{Want}
@@ -7,10 +8,12 @@ use Rattle.stx_base.specs.declared.history.PoolNote.{PoolNote}
 use Rattle.stx_base.specs.declared.history.PoolEntry.{PoolEntry}
 use Rattle.stx_base.specs.declared.history.StoreNote.{StoreNote}
 use Rattle.stx_base.specs.declared.history.StoreEntry.{StoreEntry}
-use Rattle.stx_model.specs.Faithful.{Faithful, IsBalanced, connection_bracket, transaction_bracket}
-use Rattle.stx_model.specs.Played.{Turns, want_so_far, outcome_of}
-use Rattle.stx_model.specs.Built.{IsBuilt}
-use Rattle.stx_base.specs.Limits.{most_weight, notes_a_unit}
+use Rattle.stx_base.specs.declared.line.Line.{Line}
+use Rattle.stx_base.specs.declared.line.Label.{Label}
+use Rattle.stx_model.specs.Faithful.{Faithful}
+use Rattle.stx_model.specs.Brackets.{IsBalanced, connection_bracket, transaction_bracket, binding_bracket, IsResumedInOrder, IsCompletedOnce, top_calls, is_rollback}
+use Rattle.stx_model.specs.Played.{Turns, want_so_far, outcome_of, played}
+use Rattle.stx_base.specs.Limits.{notes_a_unit}
 use Rattle.stx_base.specs.Histories.{pool_notes_of, store_notes_of, sum_below}
 use Rattle.stx_base.specs.Legal.{PoolLegal, StoreLegal}
 use Rattle.stx_base.specs.declared.history.Note.{Note}
@@ -80,31 +83,49 @@ OwnNotesFresh = (clients client : ℕ)
     → ((size : ℕ) (history : List PoolEntry) → PoolLegal clients size history → TakesFresh (pool_notes_of history client))
     × ((facts : StoreFacts) (history : List StoreEntry) → StoreLegal clients facts history → BeginsFresh (store_notes_of history client))
 
--- where the forms are built and the scenario isn't too heavy: where a script wants a call and leaves no note unread, the
--- call is proper after them
+-- in a valid scenario: where a script wants a call and leaves no note unread, the call is proper after them
 abbrev pub WantsProper : Type 0
-WantsProper = (S : Scenario) → IsBuilt S → weight S ≤ most_weight
-    → (c : ℕ) (pool : List PoolNote) (store : List StoreNote) (want : Want) (end : State)
+WantsProper = (S : Scenario) → IsInOrder S → (c : ℕ) (pool : List PoolNote) (store : List StoreNote) (want : Want) (end : State)
     → script S c pool store ≡ Stops want end → end.pool ≡ [] → end.store ≡ [] → IsProperAfter pool store want
 
--- where the forms are built: in the lines of a script that is done, takes and gives are brackets, and so are the begins
--- and the ends of transactions; all are closed where a top-level call begins
+-- in the lines of a script that is done, takes and gives are brackets, and so are the begins and the ends of transactions,
+-- and the unbinding and the binding of connections; all are closed where a top-level call begins
 abbrev pub Balanced : Type 0
-Balanced = (S : Scenario) → IsBuilt S → (c : ℕ) (pool : List PoolNote) (store : List StoreNote) (end : State)
-    → script S c pool store ≡ Stops Want.Done end → IsBalanced (map connection_bracket end.lines) × IsBalanced (map transaction_bracket end.lines)
+Balanced = (S : Scenario) (c : ℕ) (pool : List PoolNote) (store : List StoreNote) (end : State) → script S c pool store ≡ Stops Want.Done end
+    → IsBalanced (map connection_bracket end.lines) × IsBalanced (map transaction_bracket end.lines) × IsBalanced (map binding_bracket end.lines)
 
--- where the forms are built: a script that is done and leaves no note unread has given back what it took and ended what
--- it began
+-- in each top-level call of a script that is done each label is completed as often as it was registered, and at no time
+-- more often
+abbrev pub CompletedOnce : Type 0
+CompletedOnce = (S : Scenario) (c : ℕ) (pool : List PoolNote) (store : List StoreNote) (end : State) → script S c pool store ≡ Stops Want.Done end
+    → (l : Label) → All (IsCompletedOnce l) (top_calls end.lines)
+
+-- in the lines of a script that is done each call resumes what it suspended before it leaves, in the same order, and
+-- innermost calls resume first
+abbrev pub ResumesInOrder : Type 0
+ResumesInOrder = (S : Scenario) (c : ℕ) (pool : List PoolNote) (store : List StoreNote) (end : State) → script S c pool store ≡ Stops Want.Done end
+    → IsResumedInOrder end.lines
+
+-- where no transaction number is begun twice: after the line of a transaction's commit no line is its rollback
+abbrev pub CommittedStaysCommitted : Type 0
+CommittedStaysCommitted = (S : Scenario) (c : ℕ) (pool : List PoolNote) (store : List StoreNote) → BeginsFresh store
+    → (first rest : List Line) (t n : ℕ) → (state_of (script S c pool store)).lines ≡ first ++ Line.Commit t n ∷ rest → list_any (is_rollback t) rest ≡ false
+
+-- a script that is done and leaves no note unread has given back what it took and ended what it began
 abbrev pub GivesAllBack : Type 0
-GivesAllBack = (S : Scenario) → IsBuilt S → (c : ℕ) (pool : List PoolNote) (store : List StoreNote) (end : State)
+GivesAllBack = (S : Scenario) (c : ℕ) (pool : List PoolNote) (store : List StoreNote) (end : State)
     → script S c pool store ≡ Stops Want.Done end → end.pool ≡ [] → end.store ≡ []
     → (TakesFresh pool → out pool ≡ []) × (BeginsFresh store → live store ≡ [])
 
--- where the forms are built: what a play leaves is a faithful run, where the histories are legal, each script has read
--- all of its notes, and each is done
+-- what a play leaves is a faithful run, where the histories are legal, each script has read all of its notes, and each is
+-- done
 abbrev pub DoneIsFaithful : Type 0
-DoneIsFaithful = (S : Scenario) → IsBuilt S → (so_far : Turns)
+DoneIsFaithful = (S : Scenario) (so_far : Turns)
     → PoolLegal (length S.clients) S.settings.pool so_far.pool → StoreLegal (length S.clients) (store_facts S) so_far.store
     → ((c : ℕ) → c < length S.clients → ReadsAll S c (pool_notes_of so_far.pool c) (store_notes_of so_far.store c))
     → ((c : ℕ) → c < length S.clients → want_so_far S so_far c ≡ Some Want.Done)
     → Faithful S (outcome_of S so_far)
+
+-- what a schedule plays in a valid scenario is a faithful run
+abbrev pub PlayedIsFaithful : Type 0
+PlayedIsFaithful = (S : Scenario) → IsInOrder S → (schedule : List ℕ) → Faithful S (played S schedule)

@@ -11,6 +11,7 @@ pub mod Script
 pub mod Built
 pub mod Playable
 pub mod Played
+pub mod Brackets
 pub mod Faithful
 pub mod Reads
 pub mod Laws

@@ -1,5 +1,5 @@
 // The laws of the definitions, each carried by the contract of a function that does nothing.
-ghost use Rattle.stx_model.specs.Laws.{AnswersAreRead, Balanced, BreaksAtWrongNotes, DoneIsFaithful, EntriesWithin, GivesAllBack, JournalIsSerial, OwnNotesFresh, ReadsInOrder, ReadsWithin, SaysWithin, ScriptsGrow, WantsProper};
+ghost use Rattle.stx_model.specs.Laws.{AnswersAreRead, Balanced, BreaksAtWrongNotes, CommittedStaysCommitted, CompletedOnce, DoneIsFaithful, EntriesWithin, GivesAllBack, JournalIsSerial, OwnNotesFresh, PlayedIsFaithful, ReadsInOrder, ReadsWithin, ResumesInOrder, SaysWithin, ScriptsGrow, WantsProper};
 ghost use Rattle.stx_model.specs.Assurances.{AfterCommitComesTooLate, AfterCommitThrowsToTheCaller, CallsLeaveTheContext, CommittedStaysSaid, JoinedScopesOnlyMark, RequiresNewStandsApart};
 
 /// The store's journal is a serial order. Take any legal history of the store, and run the committed transactions and
@@ -77,33 +77,59 @@ pub fn calls_leave_the_context()
     ensures { CallsLeaveTheContext }
 {}
 
-/// What scripts ask for, in a scenario whose forms are built. Take a client's own notes, in which no connection is taken
-/// that is out and no transaction number is begun twice. Where its script over them wants a call and leaves no note
-/// unread, the call is proper after them: it gives what it has, names a transaction that lives, and stays within the
+/// What scripts ask for, in a valid scenario. Take a client's own notes, in which no connection is taken that is out and no
+/// transaction number is begun twice. Where its script over them wants a call and leaves no note unread, the call is proper
+/// after them: it gives what it has, names a transaction that lives and a savepoint that is there, and stays within the
 /// bounds on a client's calls. A call on the pool needs only what is said of connections, a call on the store only what
 /// is said of transactions.
 pub fn wants_proper()
     ensures { WantsProper }
 {}
 
-/// Takes and gives are brackets, and so are the begins and the ends of transactions, in a scenario whose forms are
-/// built. In the lines of a script that is done each connection that was taken is given and each transaction that was
-/// begun is committed or rolled back, the newest first, and nothing is open where a top-level call begins.
+/// Takes and gives are brackets, and so are the begins and the ends of transactions, and the unbinding and the binding of
+/// connections. In the lines of a script that is done each connection that was taken is given, each transaction that was
+/// begun is committed or rolled back, and each connection that was unbound is bound again, the newest first, and nothing is
+/// open where a top-level call begins.
 pub fn balanced()
     ensures { Balanced }
 {}
 
-/// A script that is done holds nothing, in a scenario whose forms are built. Where it leaves no note unread, no
-/// connection is out and no transaction lives in the client's own notes.
+/// Each registration is completed once. In each top-level call of a script that is done, a synchronisation or a listener has
+/// its `after_completion` callback as often as it was registered, and at no time more often, whatever rolled back and
+/// whatever a callback threw (`TransactionSynchronization.afterCompletion`).
+pub fn completed_once()
+    ensures { CompletedOnce }
+{}
+
+/// What is suspended is resumed in order. A call resumes each registration that it suspended before it leaves, in the order
+/// in which it suspended them, and calls inside it have resumed theirs by then, also where the pool was empty or a callback
+/// threw (`AbstractPlatformTransactionManager.suspend`, `resume`).
+pub fn resumes_in_order()
+    ensures { ResumesInOrder }
+{}
+
+/// A committed transaction stays committed. Where no transaction number is begun twice, as in a legal history, no line after
+/// a transaction's commit is its rollback: nothing that a callback or a caller throws later takes a commit back.
+pub fn committed_stays_committed()
+    ensures { CommittedStaysCommitted }
+{}
+
+/// A script that is done holds nothing. Where it leaves no note unread, no connection is out and no transaction lives in
+/// the client's own notes.
 pub fn gives_all_back()
     ensures { GivesAllBack }
 {}
 
-/// What a play leaves is faithful, in a scenario whose forms are built. Where the histories of the pool and of the store
-/// are legal, and each client's script has read all of the client's own notes and is done, the outcome with the scripts'
-/// lines is a faithful run.
+/// What a play leaves is faithful. Where the histories of the pool and of the store are legal, and each client's script has
+/// read all of the client's own notes and is done, the outcome with the scripts' lines is a faithful run.
 pub fn done_is_faithful()
     ensures { DoneIsFaithful }
+{}
+
+/// What is played is faithful. In a valid scenario the outcome of every schedule, as the definition of a play gives it, is a
+/// faithful run: each call is proper and answered, each client comes to its end, and everything is given back.
+pub fn played_is_faithful()
+    ensures { PlayedIsFaithful }
 {}
 
 /// A script only grows with its notes. Give a client more answers from the pool and the store, at the end of those that

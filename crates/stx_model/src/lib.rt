@@ -6,10 +6,11 @@ mod laws;
 
 pub use laws::{
     after_commit_comes_too_late, after_commit_throws_to_the_caller, answers_are_read, balanced,
-    breaks_at_wrong_notes, calls_leave_the_context, committed_stays_said, done_is_faithful,
-    entries_within, gives_all_back, joined_scopes_only_mark, journal_is_serial, own_notes_fresh,
-    reads_in_order, reads_within, requires_new_stands_apart, says_within, scripts_grow,
-    wants_proper,
+    breaks_at_wrong_notes, calls_leave_the_context, committed_stays_committed,
+    committed_stays_said, completed_once, done_is_faithful, entries_within, gives_all_back,
+    joined_scopes_only_mark, journal_is_serial, own_notes_fresh, played_is_faithful,
+    reads_in_order, reads_within, requires_new_stands_apart, resumes_in_order, says_within,
+    scripts_grow, wants_proper,
 };
 pub use stx_base::{
     Access, Answer, Call, ClientLines, Connection, Cost, Ending, Kind, Label, Line, Note, Opening,

@@ -7,10 +7,10 @@ use Rattle.stx_scenario.specs.declared.scenario.Scenario.{Scenario}
 use Rattle.stx_base.specs.declared.call.Want.{Want}
 use Rattle.stx_model.specs.Playable.{IsPlayable}
 use Rattle.stx_model.specs.Meanings.{stop_of}
-use Rattle.stx_base.specs.Stores.{store_reply}
-use Rattle.stx_model.specs.Played.{Turns, turn, turns, run_out, replied, want_so_far, most_calls, lines_so_far, outcome_of}
+use Rattle.stx_model.specs.Played.{Turns, turn, turns, run_out, want_so_far, most_calls, lines_so_far, outcome_of}
 use Rattle.stx_model.specs.Faithful.{Faithful}
 use Rattle.stx_model.proofs.PlayedLaw.{faithful_if_done}
+use Rattle.stx_model.proofs.Turns.{turns_done}
 use Rattle.stx_client.specs.View.{lines_of_script, ClientView, script_of, HasReadAll}
 use Rattle.std.proofs.lemmas.Bool.Decides.{eqb_tells}
 use Rattle.stx_model.proofs.EntriesLaw.{entries_within}
@@ -68,8 +68,8 @@ module _ (S : Scenario) (pool : Pool) (store : Store) (views : List ClientView) 
       twice [] = refl
       twice (c ∷ cs) = ap (λ ls. lines_so_far S (turns_of pool store) c ∷ ls) (twice cs)
 
-  pub faithful : IsPlayable S → AllDone S (turns_of pool store) → Faithful S (outcome_of S (turns_of pool store))
-  faithful playable done = faithful_if_done S playable.built (turns_of pool store) going.cores.pool_legal going.cores.store_legal going.reads done
+  pub faithful : AllDone S (turns_of pool store) → Faithful S (outcome_of S (turns_of pool store))
+  faithful done = faithful_if_done S (turns_of pool store) going.cores.pool_legal going.cores.store_legal going.reads done
 
   -- the histories are within what the weight allows
   pub within : IsPlayable S → count_entries (turns_of pool store) ≤ most_calls S
@@ -103,16 +103,7 @@ module _ {S : Scenario} {failed : Bool} {pool : Pool} {store : Store} {views : L
       let below : c < length S.clients = subst (λ v. c < length v.scenario.clients) (sym view) low in
       record { going = goes_on; below = below; inside = subst (λ n. c < n) (sym (count S pool store views goes_on)) below }
 
--- a turn of a client that is done does nothing
-pub done_stays : (S : Scenario) (so_far : Turns) (c : ℕ) → IsClientDone S so_far c → turn S so_far c ≡ so_far
-unfolding turn store_reply
-done_stays S so_far c done = ap (replied S so_far c) done
-
--- a client that is done stays so, whatever turns it is given
-pub turns_done : (S : Scenario) (c n : ℕ) (so_far : Turns) → IsClientDone S so_far c → turns S c n so_far ≡ so_far
-unfolding turns
-turns_done S c zero so_far done = refl
-turns_done S c (suc n) so_far done = ap (turns S c n) (done_stays S so_far c done) ∙ turns_done S c n so_far done
+-- ---- turns one after the other
 
 pub turns_add : (S : Scenario) (c k n : ℕ) (so_far : Turns) → turns S c (k + n) so_far ≡ turns S c n (turns S c k so_far)
 unfolding turns

@@ -52,10 +52,10 @@ module _ (S : Scenario) (client : ClientView) (c : ℕ) (pool : Pool) (store : S
   below = omega (arith, ready.below, ready.playable.order.places.few_clients)
 
   pub proper_pool : (call : PoolCall) → stop_of (script_of client) ≡ Some (pool_call_want call) → IsTrue (pool_proper own_pool (pool_call_want call))
-  proper_pool call is = wanted_by_pool S ready.playable c own_pool own_store ready.read takes_fresh call (wanted (pool_call_want call) is)
+  proper_pool call is = wanted_by_pool S ready.playable.order c own_pool own_store ready.read takes_fresh call (wanted (pool_call_want call) is)
 
   pub proper_store : (call : StoreCall) → stop_of (script_of client) ≡ Some (store_call_want call) → IsTrue (store_proper own_store (store_call_want call))
-  proper_store call is = wanted_by_store S ready.playable c own_pool own_store ready.read begins_fresh call (wanted (store_call_want call) is)
+  proper_store call is = wanted_by_store S ready.playable.order c own_pool own_store ready.read begins_fresh call (wanted (store_call_want call) is)
 
   pub proper_call : (call : Call) → stop_of (script_of client) ≡ Some (call_want call) → IsCallProper pool store c call
   proper_call (Call.Pool call) is = proper_pool call is

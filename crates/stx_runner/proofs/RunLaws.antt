@@ -20,7 +20,6 @@ use Rattle.stx_base.proofs.HistoryLaws.{made}
 use Rattle.stx_base.proofs.LegalLaws.{PoolLegal-among, StoreLegal-among}
 use Rattle.stx_model.specs.Faithful.{Faithful}
 use Rattle.stx_model.specs.Meanings.{state_of, stop_of}
-use Rattle.stx_model.specs.Playable.{IsPlayable}
 use Rattle.stx_model.specs.Played.{Turns, script_so_far, want_so_far, lines_so_far}
 use Rattle.stx_model.specs.Reads.{ReadsAll}
 use Rattle.stx_model.specs.Script.{script}
@@ -145,7 +144,7 @@ module _ (S : Scenario) (cells : Cells) (lines : List (List Line)) (backends : L
         store = λ none. absurd (let is = seats.store in omega (arith, none, is));
       }
 
-  module _ (playable : IsPlayable S) (first : FirstSeats) (all : HaveAll S backends first) where
+  module _ (first : FirstSeats) (all : HaveAll S backends first) where
     pub all_of_pool : AllJoined first.pool
     all_of_pool m some few =
         subst (Any (λ e. e.number ≡ m)) (sym all.pool_all)
@@ -212,4 +211,4 @@ module _ (S : Scenario) (cells : Cells) (lines : List (List Line)) (backends : L
       pub is_faithful : (outcome : Outcome) → outcome.lines ≡ lines → outcome.pool ≡ pool.entries → outcome.store ≡ store.entries → Faithful S outcome
       is_faithful outcome said taken kept =
           subst (Faithful S) (λ i. record { lines = (sym lines_are ∙ sym said) i; pool = sym taken i; store = sym kept i })
-          (faithful_if_done S playable.built so_far pool_legal store_legal (λ c below. reads c (place c below)) (λ c below. done c (place c below)))
+          (faithful_if_done S so_far pool_legal store_legal (λ c below. reads c (place c below)) (λ c below. done c (place c below)))

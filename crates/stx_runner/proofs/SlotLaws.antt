@@ -65,14 +65,14 @@ module _ (client : ClientView) (backend : SharedBackend) (ready : IsReady client
     who_is = ready.paired.seats.pool;
     below = below;
     proper = subst (λ ns. IsTrue (pool_proper ns (pool_call_want call))) ready.going.pool
-        (proper_pool client.scenario ready.paired.playable client.number client.pool client.store ready.going.read takes_fresh call is);
+        (proper_pool client.scenario ready.paired.playable.order client.number client.pool client.store ready.going.read takes_fresh call is);
   }
   proper_call (Call.Store call) is = record {
     client = client.number;
     who_is = ready.paired.seats.store;
     below = below;
     proper = subst (λ ns. IsTrue (store_proper ns (store_call_want call))) ready.going.store
-        (proper_store client.scenario ready.paired.playable client.number client.pool client.store ready.going.read begins_fresh call is);
+        (proper_store client.scenario ready.paired.playable.order client.number client.pool client.store ready.going.read begins_fresh call is);
   }
 
   -- it has made no more calls than the weight allows

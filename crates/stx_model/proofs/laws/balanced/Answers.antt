@@ -1,4 +1,4 @@
-use Rattle.stx_model.proofs.FlatProper.{balanced}
+use Rattle.stx_model.proofs.BracketLaws.{balanced}
 use Rattle.stx_model.proofs.laws.balanced.Goals as goal
 
 pub returns : goal.returns

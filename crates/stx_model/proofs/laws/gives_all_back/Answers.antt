@@ -1,4 +1,4 @@
-use Rattle.stx_model.proofs.FlatProper.{gives_all_back}
+use Rattle.stx_model.proofs.ProperLaws.{gives_all_back}
 use Rattle.stx_model.proofs.laws.gives_all_back.Goals as goal
 
 pub returns : goal.returns

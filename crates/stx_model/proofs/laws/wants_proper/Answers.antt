@@ -1,4 +1,4 @@
-use Rattle.stx_model.proofs.FlatProper.{wants_proper}
+use Rattle.stx_model.proofs.ProperLaws.{wants_proper}
 use Rattle.stx_model.proofs.laws.wants_proper.Goals as goal
 
 pub returns : goal.returns

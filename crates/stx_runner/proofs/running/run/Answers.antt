@@ -12,7 +12,7 @@ close-requires-clause-all g c =
     let cells = c.in_ok-cells.cells in
     let driven = c.in_ok-driven.driven in
     let all : HaveAll S driven.backends c.join_all.new.first = have_all S cells c.split_all.new.first c.join_all.new.first driven.backends c.in_ok-cells.ensures.cells c.in_ok-backends.ensures.first c.join_all.ensures in
-    all_of_pool S cells driven.lines driven.backends c.in_ok-driven.ensures c.requires c.join_all.new.first all
+    all_of_pool S cells driven.lines driven.backends c.in_ok-driven.ensures c.join_all.new.first all
 
 pub close-requires-2-clause-all : goal.close-requires-2-clause-all
 close-requires-2-clause-all g c =
@@ -20,7 +20,7 @@ close-requires-2-clause-all g c =
     let cells = c.in_ok-cells.cells in
     let driven = c.in_ok-driven.driven in
     let all : HaveAll S driven.backends c.join_all.new.first = have_all S cells c.split_all.new.first c.join_all.new.first driven.backends c.in_ok-cells.ensures.cells c.in_ok-backends.ensures.first c.join_all.ensures in
-    all_of_store S cells driven.lines driven.backends c.in_ok-driven.ensures c.requires c.join_all.new.first all
+    all_of_store S cells driven.lines driven.backends c.in_ok-driven.ensures c.join_all.new.first all
 
 pub returns : goal.returns
 returns g c =
@@ -28,6 +28,6 @@ returns g c =
     let cells = c.in_ok-cells.cells in
     let driven = c.in_ok-driven.driven in
     let all : HaveAll S driven.backends c.join_all.new.first = have_all S cells c.split_all.new.first c.join_all.new.first driven.backends c.in_ok-cells.ensures.cells c.in_ok-backends.ensures.first c.join_all.ensures in
-    is_faithful S cells driven.lines driven.backends c.in_ok-driven.ensures c.requires c.join_all.new.first all c.close.result c.close-2.result c.close.ensures c.close-2.ensures
+    is_faithful S cells driven.lines driven.backends c.in_ok-driven.ensures c.join_all.new.first all c.close.result c.close-2.result c.close.ensures c.close-2.ensures
     (record { lines = driven.lines; pool = c.into_entries.result; store = c.into_entries-2.result }) refl
     (c.into_entries.ensures ∙ ap (λ p. p.entries) c.into_core.ensures) (c.into_entries-2.ensures ∙ ap (λ s. s.entries) c.into_core-2.ensures)

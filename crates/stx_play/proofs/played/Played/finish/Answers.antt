@@ -30,4 +30,4 @@ returns-clause-faithful c =
     let lines = c.in_ok-lines.ensures ∙ lines_are S i.pool i.store i.clients.items going in
     let done : AllDone S (turns_of i.pool i.store) = subst (λ v. AllDone v.scenario v.so_far) (sym c.self.view_is) c.requires.done in
     rw (← c.self.view_is) (subst (Faithful S) (λ k. record { lines = sym lines k; pool = sym c.into_entries.ensures k; store = sym c.into_entries-2.ensures k })
-    (faithful S i.pool i.store i.clients.items going c.self.invariant.playable done))
+    (faithful S i.pool i.store i.clients.items going done))

@@ -1,6 +1,6 @@
 -- A turn of a client that is done does nothing.
 use Rattle.std.proofs.Common.{refl, sym, ap}
-use Rattle.stx_play.proofs.PlayedLaws.{done_stays}
+use Rattle.stx_model.proofs.Turns.{done_stays}
 use Rattle.stx_play.proofs.played.Played.step.Goals as goal
 
 pub returns-then-is_done : goal.returns-then-is_done
