@@ -1,5 +1,5 @@
 -- The calls that a script wants are proper, kind by kind, where it has read all of its notes.
-use Rattle.std.proofs.Common.{◌≡◌, ℕ, List, Some, ap}
+use Rattle.std.proofs.Common.{◌≡◌, ℕ, List, Some}
 use Rattle.std.specs.Prelude.{IsTrue}
 use Rattle.stx_scenario.specs.declared.scenario.Scenario.{Scenario}
 use Rattle.stx_base.specs.declared.call.PoolCall.{PoolCall}
@@ -11,17 +11,11 @@ use Rattle.stx_base.specs.Notes.{pool_call_want, store_call_want}
 use Rattle.stx_base.specs.Pools.{pool_proper}
 use Rattle.stx_base.specs.Stores.{store_proper}
 use Rattle.stx_base.specs.Valid.{IsInOrder}
-use Rattle.stx_model.specs.Meanings.{Result, Over, Stops, Breaks, state_of, stop_of}
+use Rattle.stx_model.specs.Meanings.{state_of, stop_of}
 use Rattle.stx_model.specs.Reads.{BeginsFresh, IsProperAfter, ReadsAll, TakesFresh}
 use Rattle.stx_model.specs.Script.{script}
+use Rattle.stx_model.proofs.PlayedLaw.{stops_at}
 use Rattle.stx_model.proofs.ProperLaws.{wants_proper}
-
-stops_with : (r : Result) (w : Want) → stop_of r ≡ Some w → r ≡ Stops w (state_of r)
-stops_with (Over x st) w is = cc
-stops_with (Stops v st) w is =
-    let same : v ≡ w = cc in
-    ap (λ v. Stops v st) same
-stops_with (Breaks st) w is = cc
 
 module _ (S : Scenario) (order : IsInOrder S) (c : ℕ) (pool : List PoolNote) (store : List StoreNote) (read : ReadsAll S c pool store) where
   abbrev Wants : Want → Type 0
@@ -29,7 +23,7 @@ module _ (S : Scenario) (order : IsInOrder S) (c : ℕ) (pool : List PoolNote) (
 
   proper_after : (w : Want) → Wants w → IsProperAfter pool store w
   proper_after w is =
-      wants_proper S order c pool store w (state_of (script S c pool store)) (stops_with (script S c pool store) w is) read.pool_read read.store_read
+      wants_proper S order c pool store w (state_of (script S c pool store)) (stops_at (script S c pool store) w is) read.pool_read read.store_read
 
   pub proper_pool : TakesFresh pool → (call : PoolCall) → Wants (pool_call_want call) → IsTrue (pool_proper pool (pool_call_want call))
   proper_pool fresh PoolCall.Take is = proper_after Want.Take is fresh
