@@ -11,3 +11,4 @@ pub mod WeightLaws
 pub mod WorkedClasses
 pub mod WorkedRules
 pub mod WorkedWeights
+pub mod Results

@@ -1,11 +1,16 @@
 -- What a pool and a store reply answers the call, and with it makes the note.
-use Rattle.std.proofs.Common.{◌≡◌, ℕ, ℤ, ◌+◌, ◌==◌, true, List, Option, Some, None, length, refl, subst, eq-eqb}
+use Rattle.std.proofs.Common.{◌≡◌, ℕ, ℤ, ◌+◌, ◌==◌, true, List, Option, Some, None, length, refl, subst, eq-eqb, ap, ◌∙◌}
 use Rattle.std.proofs.lemmas.Bool.Decides.{Decides-int_eq}
+use Rattle.std.specs.Option.{option_map}
 use Rattle.stx_scenario.specs.declared.numbers.RowNo.{RowNo}
+use Rattle.stx_base.specs.declared.call.PoolAnswer.{PoolAnswer}
+use Rattle.stx_base.specs.declared.call.Reply.{Reply}
+use Rattle.stx_base.specs.declared.call.StoreAnswer.{StoreAnswer}
 use Rattle.stx_base.specs.declared.call.Want.{Want}
 use Rattle.stx_base.specs.declared.facts.StoreFacts.{StoreFacts}
 use Rattle.stx_base.specs.declared.history.Access.{Access}
 use Rattle.stx_base.specs.declared.history.Answer.{Answer}
+use Rattle.stx_base.specs.declared.history.Note.{Note}
 use Rattle.stx_base.specs.declared.history.PoolNote.{PoolNote}
 use Rattle.stx_base.specs.declared.history.PoolEntry.{PoolEntry}
 use Rattle.stx_base.specs.declared.history.StoreNote.{StoreNote}
@@ -14,7 +19,7 @@ use Rattle.stx_base.specs.Alone.{RowMap, finds, found_or_absent}
 use Rattle.stx_base.specs.Histories.{store_notes}
 use Rattle.stx_base.specs.Pools.{taken_or_empty, pool_reply}
 use Rattle.stx_base.specs.Stores.{begun, journal, busy_or, access_answer, auto_answer, store_reply}
-use Rattle.stx_base.specs.Notes.{same_access, suits, pool_answers, store_answers}
+use Rattle.stx_base.specs.Notes.{same_access, suits, pool_answers, store_answers, pool_note, store_note, is_answer_if, is_reply_to}
 
 pub itself : (n : ℕ) → (n == n) ≡ true
 itself n = eq-eqb n n refl
@@ -84,3 +89,13 @@ pool_reply-answers size before (Want.Rollback t) note h = cc
 pool_reply-answers size before (Want.Auto a) note h = cc
 pool_reply-answers size before Want.Done note h = cc
 pool_reply-answers size before Want.Failed note h = cc
+
+-- ---- the answer to a call is a reply of its kind
+
+pub pool_suits : (size : ℕ) (before : List PoolEntry) (want : Want) (answer : PoolAnswer) (note : PoolNote)
+    → pool_note want answer ≡ Some note → pool_reply size before want ≡ Some note → is_reply_to want (Reply.Pool answer) ≡ true
+pool_suits size before want answer note made reply = ap (λ o. is_answer_if want (option_map Note.Pool o)) made ∙ pool_reply-answers size before want note reply
+
+pub store_suits : (facts : StoreFacts) (before : List StoreEntry) (want : Want) (answer : StoreAnswer) (note : StoreNote)
+    → store_note want answer ≡ Some note → store_reply facts before want ≡ Some note → is_reply_to want (Reply.Store answer) ≡ true
+store_suits facts before want answer note made reply = ap (λ o. is_answer_if want (option_map Note.Store o)) made ∙ store_reply-answers facts before want note reply

@@ -56,3 +56,4 @@ pub mod BracketLaws
 pub mod ProperLaws
 pub mod Turns
 pub mod PlayedFaithful
+pub mod WantedCalls

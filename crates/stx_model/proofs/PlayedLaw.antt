@@ -158,7 +158,7 @@ none_lives clients facts H legal none = none_live (live (store_notes H)) (λ t. 
 -- ---- scripts that are done
 
 -- a script that stops at a call stops there with its state
-stops_at : (r : Result) (want : Want) → stop_of r ≡ Some want → r ≡ Stops want (state_of r)
+pub stops_at : (r : Result) (want : Want) → stop_of r ≡ Some want → r ≡ Stops want (state_of r)
 stops_at (Stops w st) want h = ap (λ v. Stops v st) (same_Some w want h)
 stops_at (Over x st) want h = cc
 stops_at (Breaks st) want h = cc

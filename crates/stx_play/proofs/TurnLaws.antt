@@ -1,6 +1,6 @@
 -- A turn: the call that a client wants is proper, and its reply is the next entry.
-use Rattle.std.proofs.Common.{◌≡◌, ℕ, ◌+◌, ◌<◌, true, false, List, [], length, Some, None, Result, Ok, Err, refl, sym, ap, ◌∙◌, subst, arith, length-append}
-use Rattle.std.specs.Prelude.{IsTrue, OnOk}
+use Rattle.std.proofs.Common.{◌≡◌, ℕ, ◌+◌, ◌<◌, true, false, List, [], length, Some, None, refl, sym, ap, ◌∙◌, subst, arith, length-append}
+use Rattle.std.specs.Prelude.{IsTrue}
 use Rattle.std.specs.Option.{option_map}
 use Rattle.stx_scenario.specs.declared.scenario.Scenario.{Scenario}
 use Rattle.stx_base.specs.declared.call.Want.{Want}
@@ -13,28 +13,21 @@ use Rattle.stx_base.specs.declared.history.StoreNote.{StoreNote}
 use Rattle.stx_base.specs.declared.history.Note.{Note}
 use Rattle.stx_base.specs.Limits.{most_clients}
 use Rattle.stx_base.specs.Histories.{pool_notes_of, store_notes_of}
-use Rattle.stx_base.specs.Notes.{pool_call_want, store_call_want, call_want, note_of, is_answer_if, is_reply_to}
+use Rattle.stx_base.specs.Notes.{pool_call_want, store_call_want, call_want, note_of, is_reply_to}
 use Rattle.stx_base.specs.Pools.{pool_reply, pool_proper}
 use Rattle.stx_base.specs.Stores.{store_reply, store_proper, store_facts}
-use Rattle.stx_model.specs.Meanings.{Result as ScriptResult, Over, Stops, Breaks, state_of, stop_of}
-use Rattle.stx_model.specs.Reads.{TakesFresh, BeginsFresh, IsProperAfter}
-use Rattle.stx_model.specs.Played.{Turns, turn, replied, script_so_far, want_so_far, with_pool, with_store}
+use Rattle.stx_model.specs.Meanings.{stop_of}
+use Rattle.stx_model.specs.Reads.{TakesFresh, BeginsFresh}
+use Rattle.stx_model.specs.Played.{Turns, turn, replied, want_so_far, with_pool, with_store}
 use Rattle.stx_base.proofs.LegalLaws.{PoolLegal-push, StoreLegal-push, PoolFits-reply, StoreFits-reply}
 use Rattle.stx_base.proofs.HistoryLaws.{pool_notes_of-push, pool_notes_of-push_other, store_notes_of-push, store_notes_of-push_other}
-use Rattle.stx_base.proofs.NoteLaws.{pool_reply-answers, store_reply-answers}
+use Rattle.stx_base.proofs.NoteLaws.{pool_suits, store_suits}
 use Rattle.stx_model.proofs.FreshLaw.{own_notes_fresh}
-use Rattle.stx_model.proofs.ProperLaws.{wants_proper}
+use Rattle.stx_model.proofs.WantedCalls.{proper_pool as wanted_by_pool, proper_store as wanted_by_store}
 use Rattle.stx_client.specs.View.{ClientView, script_of, has_told, with_note, calling, fed, HasReadAll}
 use Rattle.stx_pool.specs.Pool.{Pool, with_pool_entry}
 use Rattle.stx_store.specs.Store.{Store, with_store_entry}
 use Rattle.stx_play.specs.inner.Turning.{turns_of, count_entries, client_so_far, AreCores, IsReady, IsCallProper, IsCallAnswered, HasTurned}
-
-stops_with : (r : ScriptResult) (w : Want) → stop_of r ≡ Some w → r ≡ Stops w (state_of r)
-stops_with (Over x st) w is = cc
-stops_with (Stops v st) w is =
-    let same : v ≡ w = cc in
-    ap (λ v. Stops v st) same
-stops_with (Breaks st) w is = cc
 
 module _ (S : Scenario) (client : ClientView) (c : ℕ) (pool : Pool) (store : Store) (ready : IsReady S client c pool store) where
   abbrev so_far : Turns
@@ -49,10 +42,6 @@ module _ (S : Scenario) (client : ClientView) (c : ℕ) (pool : Pool) (store : S
   pub wanted : (w : Want) → stop_of (script_of client) ≡ Some w → want_so_far S so_far c ≡ Some w
   wanted w is = ap (λ v. stop_of (script_of v)) (sym ready.own) ∙ is
 
-  proper_after : (w : Want) → stop_of (script_of client) ≡ Some w → IsProperAfter own_pool own_store w
-  proper_after w is =
-      wants_proper S ready.playable.order c own_pool own_store w (state_of (script_so_far S so_far c)) (stops_with (script_so_far S so_far c) w (wanted w is)) ready.read.pool_read ready.read.store_read
-
   takes_fresh : TakesFresh own_pool
   takes_fresh = (own_notes_fresh (length S.clients) c).0 S.settings.pool pool.entries ready.cores.pool_legal
 
@@ -63,18 +52,10 @@ module _ (S : Scenario) (client : ClientView) (c : ℕ) (pool : Pool) (store : S
   below = omega (arith, ready.below, ready.playable.order.places.few_clients)
 
   pub proper_pool : (call : PoolCall) → stop_of (script_of client) ≡ Some (pool_call_want call) → IsTrue (pool_proper own_pool (pool_call_want call))
-  proper_pool PoolCall.Take is = proper_after Want.Take is takes_fresh
-  proper_pool (PoolCall.Give n) is = proper_after (Want.Give n) is takes_fresh
+  proper_pool call is = wanted_by_pool S ready.playable.order c own_pool own_store ready.read takes_fresh call (wanted (pool_call_want call) is)
 
   pub proper_store : (call : StoreCall) → stop_of (script_of client) ≡ Some (store_call_want call) → IsTrue (store_proper own_store (store_call_want call))
-  proper_store StoreCall.Begin is = proper_after Want.Begin is begins_fresh
-  proper_store (StoreCall.Access t a) is = proper_after (Want.Access t a) is begins_fresh
-  proper_store (StoreCall.Point t) is = proper_after (Want.Point t) is begins_fresh
-  proper_store (StoreCall.BackTo t) is = proper_after (Want.BackTo t) is begins_fresh
-  proper_store (StoreCall.Release t) is = proper_after (Want.Release t) is begins_fresh
-  proper_store (StoreCall.Commit t) is = proper_after (Want.Commit t) is begins_fresh
-  proper_store (StoreCall.Rollback t) is = proper_after (Want.Rollback t) is begins_fresh
-  proper_store (StoreCall.Auto a) is = proper_after (Want.Auto a) is begins_fresh
+  proper_store call is = wanted_by_store S ready.playable.order c own_pool own_store ready.read begins_fresh call (wanted (store_call_want call) is)
 
   pub proper_call : (call : Call) → stop_of (script_of client) ≡ Some (call_want call) → IsCallProper pool store c call
   proper_call (Call.Pool call) is = proper_pool call is
@@ -182,12 +163,8 @@ module _ (S : Scenario) (client : ClientView) (c : ℕ) (pool : Pool) (store : S
 pub suits_call : (pool : Pool) (store : Store) (new_pool : Pool) (new_store : Store) (c : ℕ) (call : Call) (reply : Reply)
     → IsCallAnswered pool store new_pool new_store c call reply → is_reply_to (call_want call) reply ≡ true
 suits_call pool store new_pool new_store c (Call.Pool call) (Reply.Pool answer) (answered, same) =
-    ap (λ o. is_answer_if (pool_call_want call) (option_map Note.Pool o)) answered.made ∙ pool_reply-answers pool.size pool.entries (pool_call_want call) answered.note answered.replies.reply
+    pool_suits pool.size pool.entries (pool_call_want call) answer answered.note answered.made answered.replies.reply
 suits_call pool store new_pool new_store c (Call.Store call) (Reply.Store answer) (answered, same) =
-    ap (λ o. is_answer_if (store_call_want call) (option_map Note.Store o)) answered.made ∙ store_reply-answers store.facts store.entries (store_call_want call) answered.note answered.replies.reply
+    store_suits store.facts store.entries (store_call_want call) answer answered.note answered.made answered.replies.reply
 suits_call pool store new_pool new_store c (Call.Pool call) (Reply.Store answer) answered = elim answered [ ]
 suits_call pool store new_pool new_store c (Call.Store call) (Reply.Pool answer) answered = elim answered [ ]
-
-pub on_ok_two : {T E : Type 0} (r : Result T E) {A B C : Type 0} → (A → B → C) → OnOk r A → OnOk r B → OnOk r C
-on_ok_two (Ok x) both a b = both a b
-on_ok_two (Err e) both a b = b

@@ -9,6 +9,7 @@ mod view;
 
 pub use cell::{Seat, TurnCell};
 pub use logged::Logged;
+pub use view::Ended;
 
 #[cfg(test)]
 mod tests;

@@ -1,8 +1,9 @@
 -- The call is proper, and its reply is the next entry.
 use Rattle.std.proofs.Common.{◌∙◌, ap}
+use Rattle.stx_base.proofs.Results.{on_ok_two}
 use Rattle.stx_base.specs.Notes.{is_reply}
 use Rattle.stx_client.specs.View.{fed}
-use Rattle.stx_play.proofs.TurnLaws.{below, proper_call, after_call, suits_call, on_ok_two}
+use Rattle.stx_play.proofs.TurnLaws.{below, proper_call, after_call, suits_call}
 use Rattle.stx_play.proofs.turn.take_turn.Goals as goal
 
 pub ask-requires-clause-client : goal.ask-requires-clause-client

@@ -1,0 +1,4 @@
+pub mod ListLaws
+pub mod SlotLaws
+pub mod DriveLaws
+pub mod RunLaws

@@ -1,0 +1,4 @@
+-- Words of this crate's own functions and invariants; no caller needs them.
+pub mod Lists
+pub mod Slots
+pub mod Seats
