@@ -55,7 +55,7 @@ second_part true b h = h
 second_part false b h = absurd h
 
 -- what is below every key isn't among them
-none_below : {X : Type 0} (q : ℕ) (es : List (ℕ × X)) → T (below_all nat_cmp q es) → find nat_cmp q es ≡ None
+pub none_below : {X : Type 0} (q : ℕ) (es : List (ℕ × X)) → T (below_all nat_cmp q es) → find nat_cmp q es ≡ None
 none_below q [] h = refl
 none_below q (e ∷ es) h =
     ap (λ b. cond b (Some e.1) (find nat_cmp q es)) (is_below (nat_cmp q e.0) (first_part (is_lt (nat_cmp q e.0)) (below_all nat_cmp q es) h))
@@ -228,7 +228,7 @@ value_row e = record { row = record { 0 = e.0 }; value = e.1 }
 
 -- ---- the first values, one more at a time
 
-take_same : (xs : List ℤ) (i q : ℕ) → q ≢ i → slice_get (take i xs) q ≡ slice_get (take (suc i) xs) q
+pub take_same : (xs : List ℤ) (i q : ℕ) → q ≢ i → slice_get (take i xs) q ≡ slice_get (take (suc i) xs) q
 take_same [] zero q differs = refl
 take_same [] (suc i) q differs = refl
 take_same (x ∷ xs) zero zero differs = absurd (differs refl)
@@ -236,7 +236,7 @@ take_same (x ∷ xs) zero (suc q) differs = refl
 take_same (x ∷ xs) (suc i) zero differs = refl
 take_same (x ∷ xs) (suc i) (suc q) differs = take_same xs i q (λ e. differs (ap suc e))
 
-take_here : (xs : List ℤ) (i : ℕ) → slice_get xs i ≡ slice_get (take (suc i) xs) i
+pub take_here : (xs : List ℤ) (i : ℕ) → slice_get xs i ≡ slice_get (take (suc i) xs) i
 take_here [] i = refl
 take_here (x ∷ xs) zero = refl
 take_here (x ∷ xs) (suc i) = take_here xs i
