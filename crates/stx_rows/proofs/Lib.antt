@@ -1,0 +1,3 @@
+pub mod UndoLaws
+pub mod ChangeLaws
+pub mod RowsLaws

@@ -1,0 +1,28 @@
+-- The last map moves into the one below.
+use Rattle.std.proofs.Common.{◌≡◌, ℕ, ◌==◌, true, cond, List, [], ◌∷◌, Option, Some, None, map, refl, sym, ap, ◌∙◌, subst}
+use Rattle.std.specs.Bool.{nat_eq}
+use Rattle.std.specs.Option.{option_map, unwrap_or, is_some, IsSome}
+use Rattle.std.specs.Ordering.{nat_cmp}
+use Rattle.std.specs.Map.{lookup}
+use Rattle.std.specs.FinMap.{get, find, from_entries, empty}
+use Rattle.std.proofs.lemmas.Bool.{false≢true}
+use Rattle.stx_base.specs.Alone.{net}
+use Rattle.stx_rows.specs.Rows.{RowsView, kept_last, dropped, emptied, put_back_last, put_back_all, stack_of, some_stack}
+use Rattle.stx_rows.specs.inner.Undoing.{Older, value_of, slot_map, stack_map, levels_in, flat, noted, joined, innermost_level, emptied_level, HasPlaces}
+use Rattle.stx_rows.proofs.RowsLaws.{values-at, older-at, stack_of-at, stack_in, edited-by, edited-stack, edited-places, same-stack, same-places, places-opened, places-noted, places-joined, places-emptied, stack-opened, stack-noted, stack-joined, stack-emptied, put_back_last-at, put_back_all-at, extended, extended-popped, put_one, popped-placed, placed-more, on_err}
+use Rattle.stx_rows.proofs.rows.Rows.forget.Goals as goal
+
+pub invariant_of-self : goal.invariant_of-self
+invariant_of-self c =
+    let old = c.self.inside.undo.entries in
+    let slots = c.self.inside.slots.entries in
+    let at = lookup (nat_eq c.args.tx) old in
+    edited-places slots slots old c.forget_in.new.undo.entries c.args.tx (option_map joined at) c.self.invariant (λ k h. h) c.forget_in.ensures (places-joined slots at (c.self.invariant c.args.tx))
+
+pub returns-clause-older : goal.returns-clause-older
+returns-clause-older c t =
+    let old = c.self.inside.undo.entries in
+    let at = lookup (nat_eq c.args.tx) old in
+    edited-stack old c.forget_in.new.undo.entries c.args.tx (option_map joined at) (option_map dropped (get (stack_map old) c.args.tx)) c.forget_in.ensures
+    (stack-joined at ∙ ap (option_map dropped) (sym (older-at old c.args.tx))) t
+    ∙ ap (λ v. cond (t == c.args.tx) (option_map dropped (get v.older c.args.tx)) (get v.older t)) c.self.view_is
