@@ -3,7 +3,10 @@ import os
 import sys
 
 from tools import build, inputs
-from tools.say import Stop, out, say
+from tools.advice import advise
+from tools.document import Document
+from tools.say import Stop, out, printable, say
+from tools.warnings import warnings
 from tools.words import USAGE, VERSION, read_words
 
 TEXTS = {
@@ -68,6 +71,15 @@ def texts(words, given):
 
 
 def explain(scenario, result):
-    """Says on standard error what the program's status means."""
+    """Says on standard error what the program's status means: of a refusal the place and the way out."""
     if result.status in TEXTS:
         say(f"{scenario.name}: {TEXTS[result.status]}")
+    elif result.status == 4:
+        tell(advise(scenario.data, result.text, scenario.name))
+    elif result.status == 0:
+        tell(warnings(Document(scenario.data, scenario.name)))
+
+
+def tell(lines):
+    """Writes lines to standard error, odd characters spelled out."""
+    sys.stderr.write("".join(f"{printable(line)}\n" for line in lines))

@@ -29,7 +29,8 @@ def scalar(word):
         value = int(digits, 0) if digits[:1] == "0" and digits != "0" else int(digits) if len(digits) < 30 else 2**70
         return ("integer", value) if -(2**63) <= value < 2**63 else ("", None)
     if FLOAT.fullmatch(word):
-        return "float", float(word.replace("_", ""))
+        value = float(word.replace("_", ""))
+        return ("float", value) if "inf" in word or abs(value) != float("inf") else ("", None)
     if len(word) >= 5 and DATE.fullmatch(word):
         return "date", word
     return "", None
