@@ -2,7 +2,7 @@
 import os
 import sys
 
-from tools import build, inputs
+from tools import build, deciding, inputs, showing
 from tools.advice import advise
 from tools.document import Document
 from tools.say import Stop, out, printable, say
@@ -53,11 +53,16 @@ def done(words):
 
 def job_of(words):
     """The function that does what the words ask for."""
+    if words.show or words.picture or words.trace:
+        return lambda words, given: showing.show_all(words, given, explain)
+    if words.rules:
+        return lambda words, given: deciding.rules_of_all(words, given, explain)
     return texts
 
 
 def texts(words, given):
     """Prints the program's own text of each scenario."""
+    given = showing.scheduled(words, given)
     player = build.chosen(words)
     played = player.play([each.data for each in given], words.do or "play")
     status = 0
