@@ -2,7 +2,7 @@
 import os
 import sys
 
-from tools import build, deciding, inputs, showing
+from tools import build, comparing, deciding, inputs, showing
 from tools.advice import advise
 from tools.document import Document
 from tools.say import Stop, out, printable, say
@@ -53,14 +53,15 @@ def done(words):
 
 def job_of(words):
     """The function that does what the words ask for."""
-    if words.show or words.picture or words.trace:
-        return lambda words, given: showing.show_all(words, given, explain)
-    if words.rules:
-        return lambda words, given: deciding.rules_of_all(words, given, explain)
-    return texts
+    jobs = (
+        (words.show or words.picture or words.trace, showing.show_all), (words.rules, deciding.rules_of_all),
+        (words.expect, comparing.expect_all), (words.compare, comparing.compare),
+    )
+    job = next((each for asked, each in jobs if asked), texts)
+    return lambda words, given: job(words, given, explain)
 
 
-def texts(words, given):
+def texts(words, given, explain):
     """Prints the program's own text of each scenario."""
     given = showing.scheduled(words, given)
     player = build.chosen(words)
