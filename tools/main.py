@@ -2,7 +2,7 @@
 import os
 import sys
 
-from tools import build, comparing, deciding, inputs, showing
+from tools import build, comparing, deciding, inputs, outcomes, showing
 from tools.advice import advise
 from tools.document import Document
 from tools.say import Stop, out, printable, say
@@ -55,7 +55,7 @@ def job_of(words):
     """The function that does what the words ask for."""
     jobs = (
         (words.show or words.picture or words.trace, showing.show_all), (words.rules, deciding.rules_of_all),
-        (words.expect, comparing.expect_all), (words.compare, comparing.compare),
+        (words.expect, comparing.expect_all), (words.compare, comparing.compare), (words.outcomes, outcomes.outcomes),
     )
     job = next((each for asked, each in jobs if asked), texts)
     return lambda words, given: job(words, given, explain)

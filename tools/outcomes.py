@@ -124,7 +124,7 @@ def sampled(play, scenario, words, bar):
     while len(runs) < words.plays:
         count = min(1000, words.plays - len(runs))
         schedules = [[draw.choice(clients) for _ in range(min(100_000, 3 * longest * len(clients)))] for _ in range(count)]
-        runs += [(run.outcome, drawn(schedule, run)) for schedule, run in zip(schedules, play.drawn(schedules))]
+        runs += [(run.outcome, drawn(schedule, run)) for schedule, run in zip(schedules, play(schedules))]
         bar(len(runs), 0)
     return runs
 

@@ -94,7 +94,9 @@ def schedule_of(text):
 
 def read_words(given):
     """The words as an object with a field for each option."""
-    words = parser().parse_intermixed_args(given)
+    end = given.index("--") if "--" in given else len(given)
+    words = parser().parse_intermixed_args(given[:end])
+    words.files += given[end + 1 :]
     if not (words.help or words.version):
         words.schedule = schedule_of(words.schedule)
         check_together(words)

@@ -439,6 +439,8 @@ def main(words, data):
     if "clients" not in document.root.value:
         return 4, b"refused 3 Missing clients\n"
     scenario = document.scenario()
+    if not scenario.clients:
+        return 4, b"refused 6 OutOfRange clients\n"
     if words[1] == "check":
         return 0, b"accepted weight %d\n" % sum(client_weights(scenario))
     if words[1] == "rules":
