@@ -61,7 +61,7 @@ def changed_lines(stored, text):
     lines = [
         line for line in difflib.unified_diff(stored.decode("utf-8", "replace").splitlines(), text.decode("utf-8", "replace").splitlines(), lineterm="", n=1)
         if not line.startswith(("---", "+++", "@@"))
-    ] if len(stored) + len(text) < 400_000 else ["the texts differ, and are too long to be laid side by side"]
+    ] if len(stored) + len(text) < 200_000 else ["the texts differ, and are too long to be laid side by side"]
     more = len(lines) - MOST_LINES
     return [f"  {printable(line)}" for line in lines[:MOST_LINES]] + ([f"  and {counted(more, 'line')} more"] if more > 0 else [])
 

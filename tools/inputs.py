@@ -10,15 +10,28 @@ from tools.sources import TOP
 Input = namedtuple("Input", "name path data")
 
 LIMIT = 1_048_576
+# A stored report may be longer than a scenario.
+REPORT_LIMIT = 64 * LIMIT
+
+
+def read_all(name, file):
+    """The bytes of a scenario or a stored report. Of what is longer than a scenario may be one byte more is read."""
+    data = file.read(LIMIT + 1)
+    if len(data) <= LIMIT or not data.startswith(b"springtx "):
+        return data
+    data += file.read(REPORT_LIMIT)
+    if len(data) > REPORT_LIMIT:
+        raise Stop(f"{name}: this report is longer than ./play takes")
+    return data
 
 
 def read_input(name):
     if name == "-":
-        return Input("standard input", None, sys.stdin.buffer.read(LIMIT + 1))
+        return Input("standard input", None, read_all("standard input", sys.stdin.buffer))
     path = Path(name)
     try:
         with open(path, "rb") as file:
-            return Input(name, path, file.read(LIMIT + 1))
+            return Input(name, path, read_all(name, file))
     except FileNotFoundError:
         begin = " ".join(f"examples/{each.name}" for each in sorted((TOP / "examples").glob("*.toml"))[:8])
         raise Stop(f"there is no file {name}. Scenarios to begin with: {begin}") from None

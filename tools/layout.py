@@ -2,6 +2,7 @@
 
 The columns run in the order of the histories, and are folded into strips, as music is; a strip has lanes only for the clients
 that are at work or wait in it."""
+from bisect import bisect_left, bisect_right
 from collections import namedtuple
 
 from tools.order import ordered
@@ -48,9 +49,11 @@ def bars_of(walk, columns):
     bars = []
     for client in walk.clients:
         made = {}
+        numbers = [number for _, number in by_client[client.number]]
+        places = [at for at, _ in by_client[client.number]]
         for frame in client.frames:
-            inside = [number for at, number in by_client[client.number] if frame.first <= at <= frame.last]
-            made[frame] = Bar(frame, client.number, frame.depth, inside[0], inside[-1], [])
+            first, last = bisect_left(places, frame.first), bisect_right(places, frame.last) - 1
+            made[frame] = Bar(frame, client.number, frame.depth, numbers[first], numbers[last], [])
         for frame, bar in made.items():
             if frame.suspends:
                 set_aside(frame, bar, made)
@@ -72,7 +75,7 @@ def strips_of(columns, bars, wide):
     """The lanes of each strip of so many columns."""
     strips = [{} for _ in range((len(columns) + wide - 1) // wide)]
     for bar in bars:
-        for strip in range(bar.first // wide, bar.last // wide + 1):
+        for strip in range(bar.first // wide, min(bar.last // wide + 1, len(strips))):
             low, high = strip * wide, strip * wide + wide - 1
             part = Part(bar, max(bar.first, low), min(bar.last, high), bar.first >= low, bar.last <= high)
             strips[strip].setdefault(bar.client, []).append(part)

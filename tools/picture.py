@@ -11,10 +11,12 @@ LEFT, TOP, BAR, GAP = 74, 118, 17, 8
 # The widths of a letter of the two sizes, a little more than they are.
 LETTER, SMALL = 6.1, 5.5
 
-# How much a picture says: the width of a column, columns in a strip, what stands below a tick, and whether titles are given.
-Detail = namedtuple("Detail", "column wide place words titles")
+# How much a picture says: the width of a column, columns in a strip, what stands below a tick, whether titles are given, and the
+# most columns that are worth a try.
+Detail = namedtuple("Detail", "column wide place words titles most")
 DETAILS = (
-    Detail(46, 26, True, True, True), Detail(46, 26, True, True, False), Detail(32, 38, True, False, False), Detail(10, 122, False, False, False),
+    Detail(46, 26, True, True, True, 1_200), Detail(46, 26, True, True, False, 2_000), Detail(32, 38, True, False, False, 4_000),
+    Detail(10, 122, False, False, False, 20_000),
 )
 WORDS = {"savepoint": "point", "rollback": "undo", "back_to": "back"}
 
@@ -30,7 +32,7 @@ class Drawing:
 
     def __init__(self, walk, columns, bars, detail):
         self.walk, self.columns, self.detail = walk, columns, detail
-        self.strips = strips_of(columns, bars, detail.wide)
+        self.strips = strips_of(columns[: detail.most], [bar for bar in bars if bar.first < detail.most], detail.wide)
         self.right = LEFT + detail.wide * detail.column
         self.texts, self.paths, self.titled = [], {}, []
 
@@ -39,15 +41,15 @@ class Drawing:
 
     def drawn(self, name):
         """The whole picture. With the least detail what there is no room for is left out, and counted."""
-        y, size, parts, left_out = TOP, 4000, [], 0
-        for number, lanes in enumerate(self.strips):
+        y, size, parts = TOP, 4000, []
+        for lanes in self.strips:
             text, below = self.strip(lanes, y)
             if size + len(text) > MOST_BYTES and self.detail is DETAILS[-1]:
-                left_out = len(self.columns) - number * self.detail.wide
                 break
             y = below
             size += len(text)
             parts.append(text)
+        left_out = max(0, len(self.columns) - len(parts) * self.detail.wide)
         wide, high = self.right + 12, y + 24
         head = f'<svg xmlns="http://www.w3.org/2000/svg" width="{wide}" height="{high}" viewBox="0 0 {wide} {high}">\n'
         paper = f'<rect width="{wide}" height="{high}" fill="#fff"/>\n'
@@ -156,6 +158,8 @@ def picture(walk, name):
     columns = columns_of(walk)
     bars = bars_of(walk, columns)
     for detail in DETAILS:
+        if len(columns) > detail.most and detail is not DETAILS[-1]:
+            continue
         text = Drawing(walk, columns, bars, detail).drawn(printable(name))
         if len(text.encode()) < MOST_BYTES:
             break

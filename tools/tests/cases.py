@@ -10,8 +10,8 @@ LOADER.exec_module(CASES)
 
 
 def refused_cases(path):
-    """The cases of a file that are refused: name, input and the program's text."""
+    """The cases of a file that are refused, and whose input is written there: name, input and the program's text."""
     for name, case in CASES.cases_in(path):
-        if case["status"] == "4" and "text" in case:
+        if case["status"] == "4" and "text" in case and "made" not in case:
             text = case["text"].replace("@@", case.get("with", ""))
             yield name, CASES.input_of(case, path.parent), text.encode()

@@ -23,8 +23,6 @@ class Advice(unittest.TestCase):
         count = 0
         for path in sorted((TOP / "tests").glob("*.case")):
             for name, data, text in refused_cases(path):
-                if len(data) > 100_000:
-                    continue
                 lines = advise(data, text, "shop.toml")
                 with self.subTest(case=f"{path.stem}: {name}"):
                     self.assertRegex(lines[0], r"^shop\.toml:[0-9]+:[0-9]+$")
@@ -33,7 +31,7 @@ class Advice(unittest.TestCase):
                     self.assertTrue(lines[4].startswith("  right here: "))
                     self.assertTrue(lines[5].startswith("  way out: "))
                 count += 1
-        self.assertGreater(count, 300)
+        self.assertGreater(count, 280)
 
     def test_the_marks_stand_under_the_text_that_is_meant(self):
         data = b'clients = [{calls = ["b.m"]}]\n[[beans]]\nname = "b"\ntx = {propagation = "require_new"}\n'

@@ -104,7 +104,7 @@ class Pictures(unittest.TestCase):
         self.assertEqual(list(overlaps(svg)), [])
 
     def test_what_has_no_room_is_counted(self):
-        svg = self.drawn(many_clients(64, 40).encode())
+        svg = self.drawn(many_clients(64, 24).encode())
         tree.fromstring(svg)
         self.assertLess(len(svg.encode()), 200_000)
         self.assertRegex(svg, r"[0-9]+ columns more had no room here")
