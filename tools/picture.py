@@ -112,14 +112,19 @@ class Drawing:
         throws = bool(frame.thrown) and part.closes
         x, end = self.x(part.first) + 1, self.x(part.last) + self.detail.column - 1
         self.path(shapes.bar_of(frame), shapes.bar(x, y + 1, end - x, BAR - 3), title_of(frame))
-        room = end - x - 8 - (10 if throws else 0)
+        room = whole = end - x - 8 - (10 if throws else 0)
         for first, last in part.bar.aside:
             if first <= part.last and last >= part.first:
                 start = self.x(max(first, part.first)) + 1
                 wide = self.x(min(last, part.last)) + self.detail.column - 1 - start
                 self.titled.append(f'<path class="h" d="{shapes.bar(start, y + 2, wide, BAR - 5)}"/>')
                 room = min(room, start - x - 6)
-        label = cut(("" if part.opens else "..") + frame.method, room, LETTER)
+        name = ("" if part.opens else "..") + frame.method
+        label = cut(name, room, LETTER)
+        if label != name and room < whole:
+            # The name stands on a plate over the hatching.
+            label = cut(name, whole, LETTER)
+            self.titled.append(f'<path class="P" d="{shapes.bar(x + 2, y + 3, int(len(label) * LETTER) + 3, BAR - 7)}"/>' if label else "")
         if label:
             self.texts.append(f'<text x="{x + 4}" y="{y + 11}">{label}</text>')
         if throws:
