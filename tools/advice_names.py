@@ -126,6 +126,8 @@ def unknown(document, refused):
     if key == "schedule":
         count = len(scenario.clients)
         return Advice(place, f"there is no client {node.value}", f"a client from 0 to {count - 1}", f"add a client, or write {max(0, count - 1)}: clients are counted from 0")
+    if node.kind != "string":
+        return None
     kind, name = missing_name(scenario, document, steps, key, node.value)
     advice = reference(scenario, place, kind, name)
     if kind == "method" and node.value.startswith("this "):
@@ -160,7 +162,7 @@ def missing_name(scenario, document, steps, key, text):
 
 
 def missing_method(scenario, target):
-    bean, dot, _ = target.partition(".")
+    bean, dot, _ = (target or "").partition(".")
     if not dot:
         return "call", target
     if bean not in scenario.beans:

@@ -17,7 +17,7 @@ Played = namedtuple("Played", "status text")
 SECONDS = 600
 LOG = sources.TOP / "out" / "prove.log"
 TO_PROVE = "./play --prove proves and builds the program"
-LONG = "from nothing this takes about an hour and a half on four processors; what is proved stays, also where it is interrupted"
+LONG = "from nothing this takes half an hour to an hour; what is proved stays, also where it is interrupted"
 
 
 class BuiltProgram:

@@ -37,6 +37,9 @@ def main(given):
     except OSError as error:
         say(f"{error.filename or 'a file'}: {error.strerror or error}")
         return 1
+    except Exception as error:
+        say(f"a fault of ./play itself, and not of the program: {type(error).__name__}: {error}")
+        return 1
 
 
 def done(words):

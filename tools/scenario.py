@@ -60,7 +60,7 @@ class Scenario:
                 number_in(each, "order", 2**31 - 1), each.get("fallback") is True, texts(each.get("body", [])), f"listeners[{number}]",
             )
             self.listeners.setdefault(made.name, made)
-        self.steps = {}
+        self.steps, self.chains = {}, {}
         self.clients = [texts(each.get("calls", [])) for _, each in tables(document.get("clients"))]
 
     def add_method(self, number, table):
@@ -81,11 +81,14 @@ class Scenario:
 
     def ancestors(self, name):
         """A class, its parent, and so on. It ends also in a ring."""
-        way = []
-        while name in self.parents and name not in way:
-            way.append(name)
-            name = self.parents[name]
-        return way
+        if name not in self.chains:
+            way = {}
+            each = name
+            while each in self.parents and each not in way:
+                way[each] = True
+                each = self.parents[each]
+            self.chains[name] = list(way)
+        return self.chains[name]
 
     def is_below(self, name, other):
         return other in self.ancestors(name)

@@ -88,6 +88,8 @@ def wrong_statement(text):
     words = text.split()
     if not words:
         return "a statement has at least one word", ""
+    if statement_of(text):
+        return "the program takes no such statement here", ""
     verb = words[0]
     if verb not in STATEMENTS:
         meant = nearest(verb, STATEMENTS)

@@ -7,7 +7,7 @@ from tools.sentences import rule_of, statement_of
 
 MOST = 12
 # Of very many rules and classes only so many pairs are looked at.
-MOST_PAIRS = 200_000
+MOST_PAIRS = 100_000
 
 
 def statements(scenario):

@@ -1,4 +1,5 @@
 """Advice on refusals: every mistake with its stored text, and a place, a right form and a way out for all refused cases."""
+import random
 import unittest
 
 from tools.advice import advise
@@ -6,6 +7,7 @@ from tools.document import Document
 from tools.sources import TOP
 from tools.tests import mistakes
 from tools.tests.cases import refused_cases
+from tools.warnings import warnings
 
 
 class Advice(unittest.TestCase):
@@ -45,6 +47,17 @@ class Advice(unittest.TestCase):
                      b"refused 11 ClassCycle Nobody\n", b"refused 14 CallCycle b.m\n", b"refused 16 TooLarge\n", b"\xff\xfe"):
             lines = advise(b"a = 1\n", text, "s.toml")
             self.assertEqual(len(lines), 1, lines)
+
+    def test_advice_on_texts_that_fit_no_refusal_is_some_lines(self):
+        draw = random.Random(3)
+        cases = [case for name in ("mistakes", "statement_forms", "references", "callbacks") for case in refused_cases(TOP / "tests" / f"{name}.case")]
+        for _ in range(400):
+            data, text = bytearray(draw.choice(cases)[1]), draw.choice(cases)[2]
+            for _ in range(draw.randint(0, 3)):
+                data[draw.randrange(len(data))] = draw.choice(b'[]{}".,= \n\xff\x00azT1-')
+            lines = advise(bytes(data), text, "s.toml")
+            self.assertTrue(lines and all("\n" not in line for line in lines))
+            warnings(Document(bytes(data), "s.toml"))
 
     def test_odd_bytes_are_told_as_such(self):
         lines = advise(b'clients = "\xff"', b"refused 1 NotToml\n", "s.toml")

@@ -42,6 +42,7 @@ class Playing(unittest.TestCase):
         finally:
             sys.stdin, sys.stdout, sys.stderr = before
             os.chdir(before_there)
+        self.assertNotIn(b"a fault of ./play itself", ends[2].buffer.getvalue())
         return SimpleNamespace(returncode=status, stdout=ends[1].buffer.getvalue(), stderr=ends[2].buffer.getvalue())
 
     def run_play(self, *words, command=TOP / "play"):
