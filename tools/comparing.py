@@ -70,7 +70,7 @@ def expect_all(words, given, explain):
     """Compares each scenario's text with what is stored beside it."""
     stored = [stored_of(each) for each in given]
     status = 0
-    played = build.chosen(words).play([each.data for each in given])
+    played = build.chosen(words).play([each.data for each in given], words.do or "play")
     for each, wanted, result in zip(given, stored, played):
         if result.status not in (0, 4):
             explain(each, result)

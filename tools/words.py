@@ -16,7 +16,7 @@ what to do
   --picture FILE.svg  a picture: clients as lanes, scopes as bars
   --trace FILE.json   a trace for Perfetto's and Chrome's viewers
   --rules             a table of what each method decides for each class
-  --expect            compares with NAME.report beside each scenario; status 8 where one differs
+  --expect            compares with NAME.report beside each scenario; status 8 where one differs. It goes with --do
   --compare A B       says which calls end otherwise in scenario B than in scenario A
   --outcomes          plays every schedule, and says what can happen, how often, and by which schedule
   --prove             proves and builds the program first (alone: only that)
@@ -61,7 +61,7 @@ def parser():
 
 def check_together(words):
     """Stops where the words don't go together, before anything is built."""
-    chosen = [f"--{each}" for each in ALONE if getattr(words, each)]
+    chosen = [f"--{each}" for each in ALONE if getattr(words, each) and not (each == "do" and words.expect)]
     shown = [f"--{each}" for each in SHOWN if getattr(words, each)]
     if len(chosen) + bool(shown) > 1:
         raise Stop(f"{' and '.join((chosen + shown)[:2])} don't go together")

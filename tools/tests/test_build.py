@@ -120,6 +120,17 @@ class Building(unittest.TestCase):
             words.quick = True
             self.assertEqual(build.chosen(words).why, "you asked for it")
 
+    def test_running_threads_are_another_program_with_a_word_of_caution(self):
+        words = SimpleNamespace(program=None, threads=True, quick=False)
+        program = self.here / "springtx_run"
+        with mock.patch.object(sources, "program_of", return_value=program):
+            with self.assertRaisesRegex(Stop, "isn't built"):
+                build.chosen(words)
+            program.write_text('#!/bin/sh\necho "$@"\n')
+            program.chmod(0o755)
+            self.assertEqual(build.chosen(words).play([FIRST])[0].text, b"--do run\n")
+        self.assertIn("the order may differ each time", sys.stderr.getvalue())
+
     def test_proving_goes_crate_by_crate_and_stops_at_a_failure(self):
         with mock.patch.object(sources, "program_of", return_value=self.here / "rt"):
             build.prove()

@@ -206,6 +206,11 @@ class Comparing(Playing):
         self.assertEqual(done.returncode, 8)
         self.assertIn(b"b.toml: DIFFERS from b.report\n  it isn't there yet", done.stdout)
 
+    def test_another_jobs_text_can_be_expected(self):
+        self.write("a.toml", FIRST.read_bytes())
+        self.write("a.report", "accepted weight 3\n")
+        self.assertEqual(self.play("--expect", "--do", "check", "a.toml").stdout, b"a.toml: as expected\n")
+
     def test_a_refusal_can_be_expected(self):
         self.write("a.toml", "x")
         self.write("a.report", "refused 1 NotToml\n")
