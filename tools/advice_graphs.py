@@ -28,7 +28,8 @@ def class_cycle(document, refused):
     ring = document.scenario().ancestors(refused.argument)
     shown = [*ring[:6], "..", ring[-1]] if len(ring) > 8 else ring
     return Advice(
-        place, f"this class is below itself: {' -> '.join([*shown, refused.argument])}", "a parent that isn't below this class: a built-in one, or one that leads to it",
+        place, f"this class is below itself: {' -> '.join([*shown, refused.argument])}",
+        "a parent that isn't below this class: a built-in one, or one that leads to it",
         "let one class of the ring have Exception (checked) or RuntimeException (unchecked) as its parent",
     )
 
@@ -38,9 +39,11 @@ def class_depth(document, refused):
     if place is None:
         return None
     way = document.scenario().ancestors(refused.argument)
+    higher = "let it stand higher in the tree"
+    if len(way) > DEEPEST:
+        higher = f"let `{way[len(way) - DEEPEST]}` be its parent: so it is {DEEPEST} steps below Throwable"
     return Advice(
-        place, f"the class is {len(way) - 1} steps below Throwable", f"a parent at most {DEEPEST - 1} steps below Throwable",
-        f"let `{way[len(way) - DEEPEST]}` be its parent: so it is {DEEPEST} steps below Throwable" if len(way) > DEEPEST else "let it stand higher in the tree",
+        place, f"the class is {len(way) - 1} steps below Throwable", f"a parent at most {DEEPEST - 1} steps below Throwable", higher,
     )
 
 
@@ -60,7 +63,12 @@ def callback_body(document, refused):
         else "throw, and call of a method whose propagation is requires_new"
     )
     why, way = why_not_early(statement) if early else why_not_late(scenario, statement, phase)
-    return Advice(places.value_place(node), f"{quoted(node.value)} may not stand in {'an' if phase[0] == 'a' else 'a'} {phase} callback: {why}", right, way)
+    article = "an" if phase[0] == "a" else "a"
+    says = f"{quoted(node.value)} may not stand in {article} {phase} callback: {why}"
+    return Advice(places.value_place(node), says, right, way)
+
+
+NOT_INSIDE = ("marks, registrations and publications inside callbacks aren't played", "do it in the method's own body, before it ends")
 
 
 def why_not_early(statement):
@@ -72,26 +80,28 @@ def why_not_early(statement):
         )
     if verb in ("call", "this"):
         return "calls from beforeCommit aren't played", "write its reads and writes here, or call it from the method before it ends"
-    return "marks, registrations and publications inside callbacks aren't played", "do it in the method's own body, before it ends"
+    return NOT_INSIDE
 
 
 def why_not_late(scenario, statement, phase):
     verb = statement.verb if statement else ""
     if verb in ("read", "write", "erase", "add", "need"):
         return (
-            "the transaction is over, so what is done here would run on its connection outside of it, and might never be committed",
+            "the transaction is over, so what is done here would run on its connection outside of it, and might never be "
+            "committed",
             "put it into a method with propagation requires_new, and call that"
             + (", or use the phase before_commit" if phase != "before_completion" else ", or use before_commit"),
         )
     if verb == "call":
         propagation = scenario.propagation(statement.name) or "none"
         return (
-            f"{statement.name} has propagation {propagation}: it would join a transaction that is over, so its writes would never be committed",
+            f"{statement.name} has propagation {propagation}: it would join a transaction that is over, so its writes would never "
+            "be committed",
             f'give {statement.name} tx = {{propagation = "requires_new"}}, or call one that has it{others(scenario)}',
         )
     if verb == "this":
         return "a callback is no method of a bean, so there is no this", "call BEAN.METHOD with propagation requires_new" + others(scenario)
-    return "marks, registrations and publications inside callbacks aren't played", "do it in the method's own body, before it ends"
+    return NOT_INSIDE
 
 
 def others(scenario):
@@ -110,16 +120,20 @@ def call_cycle(document, refused):
     place = place_of_path(document, ring[0][2]) if ring else None
     if place is None:
         return None
-    steps = [f"{method} -> {target} (line {line_of_path(document, path)}{', by ' + holder if holder else ''})" for method, target, path, holder in ring]
+    steps = [step_text(document, *step) for step in ring]
     shown = steps if len(steps) <= 6 else [*steps[:4], f".. {len(steps) - 5} steps more ..", steps[-1]]
     listener = next((holder for _, _, _, holder in ring if holder.startswith("listener")), "")
-    way = f"let {listener} call a method that doesn't publish this event" if listener else "take one of these statements out: a call that comes back to itself would never end here"
+    way = "take one of these statements out: a call that comes back to itself would never end here"
+    if listener:
+        way = f"let {listener} call a method that doesn't publish this event"
     return Advice(place, f"{refused.argument} leads to itself: {'; '.join(shown)}", "a statement that doesn't lead back", way)
 
 
-def line_of_path(document, path):
+def step_text(document, method, target, path, holder):
+    """A step of a way round, with the line of its statement."""
     place = place_of_path(document, path)
-    return document.line(place.node) if place else "?"
+    line = document.line(place.node) if place else "?"
+    return f"{method} -> {target} (line {line}{', by ' + holder if holder else ''})"
 
 
 def longest_way(scenario, method):
@@ -153,7 +167,8 @@ def call_depth(document, refused):
         return None
     shown = [*way[:4], "..", way[-1]]
     return Advice(
-        place, f"{refused.argument} leads {len(way) - 1} calls deep: {' -> '.join(shown)}", f"a call of a method that leads at most {DEEPEST - 1} calls deep",
+        place, f"{refused.argument} leads {len(way) - 1} calls deep: {' -> '.join(shown)}",
+        f"a call of a method that leads at most {DEEPEST - 1} calls deep",
         "take a call out on this way, or let a method in its middle be called by the client itself",
     )
 
@@ -172,10 +187,11 @@ def too_large(document, refused):
     largest = max(calls, key=lambda each: known.get(each, (1, 0))[0])
     size, registrations = known.get(largest, (1, 0))
     whole, alone, size = (each if each < 10**15 else "more than 10^15" for each in (sum(weights), weights[heavy], size))
+    says = f"the clients weigh {whole} together, client {heavy} alone {alone}; its heaviest call is {largest}, of size {size}"
+    if registrations:
+        says += f" with {registrations} registrations, and each registration counts all of the client's size once more"
     return Advice(
-        place, f"the clients weigh {whole} together, client {heavy} alone {alone}; its heaviest call is {largest}, of size {size}"
-        + (f" with {registrations} registrations, and each registration counts all of the client's size once more" if registrations else ""),
-        f"at most {HEAVIEST} together", f"let client {heavy} make fewer calls, or give some of them to another client or file",
+        place, says, f"at most {HEAVIEST} together", f"let client {heavy} make fewer calls, or give some of them to another client or file",
     )
 
 

@@ -16,22 +16,26 @@ def bad_name(document, refused):
         return None
     text = node.value
     if "classes" in steps:
-        parts = [re.sub(r"[^A-Za-z0-9_]", "_", each)[:32] for each in text.split(".") if each][:8]
-        meant = ".".join(each if not each[:1].isdigit() else f"_{each[:31]}" for each in parts)
-        built_in = text in dict(BUILT_IN)
-        why = "a built-in class has this name" if built_in else "this is no class name"
-        way = "take the entry out: the class is there" if built_in else way_of_name(meant if sentences.is_class(meant) else "Class_1")
-        return Advice(places.value_place(node), f"{why}: {quoted(text)}", A_CLASS, way)
+        return bad_class_name(node)
+    dotted = steps[0] == "methods" and "." in text
+    meant = like_a_name(text.rpartition(".")[2] if dotted else text)
+    says = f"this is no name: {quoted(text)}; {sentences.wrong_name(text)}{' (a method is named without its bean)' if dotted else ''}"
+    return Advice(places.value_place(node), says, A_NAME, f"for example `{meant if sentences.is_name(meant) else 'name_1'}`")
+
+
+def bad_class_name(node):
+    if node.value in dict(BUILT_IN):
+        says, way = "a built-in class has this name", "take the entry out: the class is there"
+    else:
+        meant = ".".join([like_a_name(each) for each in node.value.split(".") if each][:8])
+        says, way = "this is no class name", f"for example `{meant if sentences.is_class(meant) else 'Class_1'}`"
+    return Advice(places.value_place(node), f"{says}: {quoted(node.value)}", A_CLASS, way)
+
+
+def like_a_name(text):
+    """A name that is like a text."""
     meant = re.sub(r"[^A-Za-z0-9_]", "_", text)
-    meant = (f"_{meant}" if meant[:1].isdigit() else meant)[:32]
-    dotted = " (a method is named without its bean)" if steps[0] == "methods" and "." in text else ""
-    if dotted:
-        meant = re.sub(r"[^A-Za-z0-9_]", "_", text.rpartition(".")[2])[:32]
-    return Advice(places.value_place(node), f"this is no name: {quoted(text)}; {sentences.wrong_name(text)}{dotted}", A_NAME, way_of_name(meant if sentences.is_name(meant) else "name_1"))
-
-
-def way_of_name(meant):
-    return f"for example `{meant}`"
+    return (f"_{meant}" if meant[:1].isdigit() else meant)[:32]
 
 
 def name_nodes(document, *keys):
@@ -62,8 +66,8 @@ def duplicate(document, refused):
         )
     first = next((each for each in nodes if each.value == node.value), node)
     names = {each.value for each in nodes}
-    what = {"methods": "method of this bean", "syncs": "synchronisation or listener", "listeners": "synchronisation or listener", "classes": "class"}
-    one = what.get(kind, kind[:-1])
+    both = "synchronisation or listener"
+    one = {"methods": "method of this bean", "syncs": both, "listeners": both, "classes": "class"}.get(kind, kind[:-1])
     return Advice(
         places.value_place(node), f"{quoted(node.value)} stands twice: first on line {document.line(first)}",
         f"a name that no other {one} has", f"take one of them out, or name this one `{a_name(names, node.value)}`",
@@ -89,12 +93,18 @@ def bad_word(document, refused):
         return None
     key = places.keys_of(steps)[-1]
     text = node.value
+    place = places.value_place(node)
     if key in WORDS:
         meant = nearest(text, WORDS[key])
-        return Advice(places.value_place(node), f"{quoted(text)} is no {key}", listed(WORDS[key]), f"did you mean `{meant}`?" if meant else f"`{WORDS[key][0]}` is what Spring does by default" if key != "phase" else "`after_commit` is Spring's default")
-    wrong, forms = (sentences.wrong_rule, RULES) if key == "rules" else (sentences.wrong_statement, STATEMENTS.values())
+        default = "after_commit" if key == "phase" else WORDS[key][0]
+        way = f"did you mean `{meant}`?" if meant else f"`{default}` is what Spring does by default"
+        return Advice(place, f"{quoted(text)} is no {key}", listed(WORDS[key]), way)
+    what, wrong, forms = "statement", sentences.wrong_statement, STATEMENTS.values()
+    if key == "rules":
+        what, wrong, forms = "rule", sentences.wrong_rule, RULES
     why, meant = wrong(text)
-    return Advice(places.value_place(node), f"{quoted(text)} is no {'rule' if key == 'rules' else 'statement'}: {why}", listed(f"`{each}`" for each in forms), way_of_sentence(text, meant, forms))
+    right = listed(f"`{each}`" for each in forms)
+    return Advice(place, f"{quoted(text)} is no {what}: {why}", right, way_of_sentence(text, meant, forms))
 
 
 def way_of_sentence(text, meant, forms):
@@ -124,8 +134,9 @@ def unknown(document, refused):
     key = places.keys_of(steps)[-1]
     place = places.value_place(node)
     if key == "schedule":
-        count = len(scenario.clients)
-        return Advice(place, f"there is no client {node.value}", f"a client from 0 to {count - 1}", f"add a client, or write {max(0, count - 1)}: clients are counted from 0")
+        last = max(0, len(scenario.clients) - 1)
+        way = f"add a client, or write {last}: clients are counted from 0"
+        return Advice(place, f"there is no client {node.value}", f"a client from 0 to {last}", way)
     if node.kind != "string":
         return None
     kind, name = missing_name(scenario, document, steps, key, node.value)
@@ -174,16 +185,18 @@ def reference(scenario, place, kind, name):
     """The advice on a name of nothing."""
     if kind == "call":
         meant = next((each for each in scenario.methods if each.partition(".")[2] == name), "") or nearest(name, scenario.methods)
-        return Advice(place, f"{quoted(name)} names no method", "BEAN.METHOD", f"did you mean `{meant}`?" if meant else "write the bean, a dot and the method")
+        way = f"did you mean `{meant}`?" if meant else "write the bean, a dot and the method"
+        return Advice(place, f"{quoted(name)} names no method", "BEAN.METHOD", way)
     names, how = names_of(scenario)[kind]
     name = name or ""
     meant = nearest(name, names)
     if kind == "method" and not meant:
         meant = next((each for each in names if each.partition(".")[2] == name.partition(".")[2]), "")
     what = {"sync": "synchronisation", "class": "class"}.get(kind, kind)
-    near = [each for each in names if kind != "class" or each in scenario.own_classes] or names
-    declared = listed(near[:6], "and") + (" and more" if len(near) > 6 else "") if near else "there is none yet"
-    right = f"{'an' if what[0] == 'e' else 'a'} {what} that is declared: {declared}" if kind != "class" else f"a built-in class, or one that is declared: {listed(scenario.own_classes[:6], 'and')}"
+    declared = scenario.own_classes if kind == "class" else names
+    some = listed(declared[:6], "and") + (" and more" if len(declared) > 6 else "")
+    one = "a built-in class, or one" if kind == "class" else f"an {what}" if kind == "event" else f"a {what}"
+    right = f"{one} that is declared: {some if declared else 'there is none yet'}"
     if kind == "sync" and name in scenario.listeners:
         way = f"{quoted(name)} is a listener, and those aren't registered: `publish {scenario.listeners[name].event}` does it"
     elif meant:

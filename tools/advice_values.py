@@ -9,7 +9,8 @@ SAMPLES = {
     "calls": 'calls = ["b.m"]', "clients": '[[clients]] with calls = ["b.m"]',
 }
 A_TYPE = {
-    "string": "a text in quotes", "integer": "a whole number", "boolean": "true or false", "array": "a list in [ ]", "table": "a table in { }",
+    "string": "a text in quotes", "integer": "a whole number", "boolean": "true or false", "array": "a list in [ ]",
+    "table": "a table in { }",
 }
 KINDS = {**A_TYPE, "string": "a text", "float": "a number with a fraction", "date": "a date or time"}
 
@@ -77,7 +78,8 @@ def missing(document, refused):
         place = places.Place(max(0, document.text.rfind("\n", 0, end) + 1), end, table)
     else:
         place = places.head_place(document.text, table)
-    return Advice(place, f"{where} needs the key `{key}`, and it isn't here", SAMPLES.get(key, f"{key} = .."), f"add {SAMPLES.get(key, key)}")
+    sample = SAMPLES.get(key, f"{key} = ..")
+    return Advice(place, f"{where} needs the key `{key}`, and it isn't here", sample, f"add {sample}")
 
 
 def type_due(steps):
@@ -96,10 +98,8 @@ def wrong_type(document, refused):
     if node is None or not due:
         return None
     text = document.text[node.start : node.end]
-    return Advice(
-        places.value_place(node), f"here is {KINDS.get(node.kind, node.kind)}, and {places.keys_of(steps)[-1]} takes {A_TYPE[due]}",
-        A_TYPE[due], way_of_type(node, due, text, steps),
-    )
+    says = f"here is {KINDS.get(node.kind, node.kind)}, and {places.keys_of(steps)[-1]} takes {A_TYPE[due]}"
+    return Advice(places.value_place(node), says, A_TYPE[due], way_of_type(node, due, text, steps))
 
 
 def way_of_type(node, due, text, steps):
@@ -116,7 +116,8 @@ def way_of_type(node, due, text, steps):
         return f"put it in brackets: [{text[:60]}]" if node.kind in ("string", "integer", "table") else "write a list in brackets"
     if due == "table":
         if node.kind == "string" and key == "tx":
-            return f'tx = {{ propagation = "{nearest(f"{node.value} ", WORDS["propagation"]) or "required"}" }}, or tx = {{}} for @Transactional alone'
+            meant = nearest(f"{node.value} ", WORDS["propagation"]) or "required"
+            return f'tx = {{ propagation = "{meant}" }}, or tx = {{}} for @Transactional alone'
         if node.kind == "boolean" and key == "tx":
             return "tx = {} is @Transactional alone; leave tx out where there is none"
         return "write a table: { key = value }" if isinstance(steps[-1], int) or key == "tx" else f"[{key}], and its keys below"
@@ -131,12 +132,19 @@ def out_of_range(document, refused):
         return None
     key = places.keys_of(steps)[-1]
     if key == "clients":
-        return Advice(places.key_place(node), "there is no client, so nobody calls anything", "1 to 64 clients", 'add one: [[clients]] with calls = ["BEAN.METHOD"]')
+        says, way = "there is no client, so nobody calls anything", 'add one: [[clients]] with calls = ["BEAN.METHOD"]'
+        return Advice(places.key_place(node), says, "1 to 64 clients", way)
     low, high = {"pool": (1, 64), "schedule": (0, 63)}.get(key, (-(2**31), 2**31 - 1))
     return Advice(
         places.value_place(node), f"{quoted(node.value)} is out of range", f"{low} to {high}",
         f"the nearest is {min(max(node.value, low), high)}" + ("; clients are counted from 0" if key == "schedule" else ""),
     )
+
+
+OTHER_WAYS = {
+    "clients": "play the others in a second file", "body": "move some into a method of their own, and call it",
+    "calls": "give the others to a second client",
+}
 
 
 def too_many(document, refused):
@@ -146,8 +154,8 @@ def too_many(document, refused):
     key = places.keys_of(steps)[-1]
     most = LIMITS.get(key, 0)
     first = node.value[most] if most < len(node.value) else node
-    ways = {"clients": "play the others in a second file", "body": "move some into a method of their own, and call it", "calls": "give the others to a second client"}
-    return Advice(
-        places.value_place(first), f"{key} has {len(node.value)} entries; here begins the first that is too many", f"at most {most} entries",
-        f"take {len(node.value) - most} out" + (f", or {ways[key]}" if key in ways else ""),
-    )
+    says = f"{key} has {len(node.value)} entries; here begins the first that is too many"
+    way = f"take {len(node.value) - most} out"
+    if key in OTHER_WAYS:
+        way += f", or {OTHER_WAYS[key]}"
+    return Advice(places.value_place(first), says, f"at most {most} entries", way)

@@ -24,14 +24,18 @@ def end_of(top):
     return top.method, top.thrown, txs, top.own
 
 
-def end_text(top):
-    """How a top-level call ended, in words."""
+def end_text(top, method):
+    """How a top-level call ended, in words; None where there is no such call."""
+    if top is None:
+        return "there is no such call"
     kept = {}
     for tx in top.txs:
         if tx.ended == "commit":
             kept.update(tx.writes())
     kept.update(top.own)
-    return f"{summary.saw_text(top)}; {summary.data_text(top)}" + (f" ({summary.rows_text(kept)})" if kept else "")
+    rows = f" ({summary.rows_text(kept)})" if kept else ""
+    other = "" if top.method == method else f"it calls {top.method}: "
+    return f"{other}{summary.saw_text(top)}; {summary.data_text(top)}{rows}"
 
 
 def differences(one, other, names):
@@ -44,24 +48,24 @@ def differences(one, other, names):
         if here is None or there is None or end_of(here) != end_of(there):
             method = (here or there).method
             lines.append(f"client {key[0]}, call {key[1]}: {method}")
-            for name, top in zip(names, (here, there)):
-                shown = "there is no such call" if top is None else ("" if top.method == method else f"it calls {top.method}: ") + end_text(top)
-                lines.append(f"  {name}: {shown}")
+            lines += [f"  {name}: {end_text(top, method)}" for name, top in zip(names, (here, there))]
     return lines
 
 
 def rows_lines(one, other, names):
     if one.report.rows == other.report.rows:
         return []
-    return ["rows at the end"] + [f"  {name}: {summary.rows_text(dict(walk.report.rows)) or 'none'}" for name, walk in zip(names, (one, other))]
+    rows = [summary.rows_text(dict(walk.report.rows)) or "none" for walk in (one, other)]
+    return ["rows at the end"] + [f"  {name}: {text}" for name, text in zip(names, rows)]
 
 
 def changed_lines(stored, text):
     """The lines that differ, the first of them."""
-    lines = [
-        line for line in difflib.unified_diff(stored.decode("utf-8", "replace").splitlines(), text.decode("utf-8", "replace").splitlines(), lineterm="", n=1)
-        if not line.startswith(("---", "+++", "@@"))
-    ] if len(stored) + len(text) < 200_000 else ["the texts differ, and are too long to be laid side by side"]
+    if len(stored) + len(text) > 200_000:
+        return ["  the texts differ, and are too long to be laid side by side"]
+    one, other = (each.decode("utf-8", "replace").splitlines() for each in (stored, text))
+    found = difflib.unified_diff(one, other, lineterm="", n=1)
+    lines = [line for line in found if not line.startswith(("---", "+++", "@@"))]
     more = len(lines) - MOST_LINES
     return [f"  {printable(line)}" for line in lines[:MOST_LINES]] + ([f"  and {counted(more, 'line')} more"] if more > 0 else [])
 
@@ -79,7 +83,8 @@ def expect_all(words, given, explain):
             out(f"{printable(each.name)}: as expected\n")
         else:
             status = max(status, DIFFERS)
-            out("\n".join([f"{printable(each.name)}: DIFFERS from {printable(report_of(each).name)}", *difference_lines(wanted, result.text)]) + "\n")
+            head = f"{printable(each.name)}: DIFFERS from {printable(report_of(each).name)}"
+            out("\n".join([head, *difference_lines(wanted, result.text)]) + "\n")
     return status
 
 
@@ -89,7 +94,8 @@ def difference_lines(wanted, text):
     one, other = walk_of(wanted), walk_of(text)
     names = ("expected", "played")
     said = [*differences(one, other, names), *rows_lines(one, other, names)] if one and other else []
-    return [f"  {line}" for line in said[:MOST_LINES]] + ["  line by line, - expected and + played:", *changed_lines(wanted, text)]
+    said = [f"  {line}" for line in said[:MOST_LINES]]
+    return [*said, "  line by line, - expected and + played:", *changed_lines(wanted, text)]
 
 
 def report_of(scenario):
@@ -130,6 +136,8 @@ def compared(one, other, names):
     lines = differences(one, other, names)
     count = len([line for line in lines if not line.startswith(" ")])
     total = max(len(one.tops()), len(other.tops()))
-    head = f"{count} of {counted(total, 'call')} {'ends' if count == 1 else 'end'} otherwise" if count else f"all {counted(total, 'call')} end alike"
+    head = f"all {counted(total, 'call')} end alike"
+    if count:
+        head = f"{count} of {counted(total, 'call')} {'ends' if count == 1 else 'end'} otherwise"
     commits = [len(walk.report.journal) for walk in (one, other)]
     return [head, *lines, f"commits: {commits[0]} in {names[0]}, {commits[1]} in {names[1]}", *rows_lines(one, other, names)]

@@ -83,7 +83,7 @@ def strips_of(columns, bars, wide):
     for number, strip in enumerate(strips):
         here = list(enumerate(columns[number * wide : number * wide + wide], number * wide))
         lanes.append([
-            Lane(client, parts, [(at, column) for at, column in here if column.client == client], 1 + max(part.bar.depth for part in parts))
+            Lane(client, parts, [each for each in here if each[1].client == client], 1 + max(part.bar.depth for part in parts))
             for client, parts in sorted(strip.items())
         ])
     return lanes

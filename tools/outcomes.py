@@ -21,7 +21,8 @@ class Plays:
     def one(self, schedule):
         result = self.program.play([with_schedule(self.document, schedule)])[0]
         if result.status:
-            raise Stop(f"{self.document.name}: the program ended with status {result.status} under a schedule: {printable(result.text.decode('utf-8', 'replace').strip())}")
+            said = printable(result.text.decode("utf-8", "replace").strip())
+            raise Stop(f"{self.document.name}: the program ended with status {result.status} under a schedule: {said}")
         try:
             return Run(report.read(result.text), schedule)
         except report.Fault as fault:
@@ -83,7 +84,9 @@ def schedule_text(schedule, clients):
 
 def outcome_lines(outcome):
     ends, rows = outcome
-    lines = [f"  client {client}, call {number}: {method}: {'the caller got ' + thrown if thrown else 'it returned normally'}" for client, number, method, thrown in ends]
+    lines = []
+    for client, number, method, thrown in ends:
+        lines.append(f"  client {client}, call {number}: {method}: {f'the caller got {thrown}' if thrown else 'it returned normally'}")
     return [*lines, f"  rows at the end: {summary.rows_text(dict(rows)) or 'none'}"]
 
 
@@ -102,15 +105,17 @@ def listed(ways, shortest, what):
     found = sorted(ways, key=lambda outcome: (-ways[outcome], len(shortest[outcome]), shortest[outcome]))
     for number, outcome in enumerate(found, 1):
         clients = len({client for client, _, _, _ in outcome[0]})
-        lines += ["", f"outcome {number} of {len(found)}: {share(ways[outcome], whole)} of {what} ({ways[outcome]}); {schedule_text(shortest[outcome], clients)}"]
+        how_often = f"{share(ways[outcome], whole)} of {what} ({ways[outcome]})"
+        lines += ["", f"outcome {number} of {len(found)}: {how_often}; {schedule_text(shortest[outcome], clients)}"]
         lines += outcome_lines(outcome)
     return lines
 
 
 def all_lines(explorer):
     whole = sum(explorer.ways.values())
+    schedules = ("all " if whole > 1 else "") + counted(whole, "schedule")
     return [
-        f"{counted(len(explorer.ways), 'outcome')} under {'all ' if whole > 1 else ''}{counted(whole, 'schedule')}, by {counted(explorer.plays, 'play')}",
+        f"{counted(len(explorer.ways), 'outcome')} under {schedules}, by {counted(explorer.plays, 'play')}",
         *listed(explorer.ways, explorer.shortest, "the schedules"),
     ]
 
@@ -130,7 +135,7 @@ def sampled(play, scenario, words, bar):
 
 
 def drawn(schedule, run):
-    """The schedule without entries of clients that had ended, and without an end that the clients run to in their order anyway."""
+    """The schedule without entries of clients that had ended, and without an end to which the clients run by themselves."""
     left = [len(notes) for notes in run.notes]
     kept = []
     for client in schedule:
@@ -152,7 +157,8 @@ def sample_lines(runs, explorer, words):
         if outcome not in ways or len(schedule) < len(shortest[outcome]):
             shortest[outcome] = schedule
             ways.setdefault(outcome, 0)
+    sample = f"a sample of {counted(len(runs), 'schedule')}, drawn by the seed {words.seed}"
     return [
-        f"{counted(len(ways), 'outcome')} in a sample of {counted(len(runs), 'schedule')}, drawn by the seed {words.seed}: there may be others",
+        f"{counted(len(ways), 'outcome')} in {sample}: there may be others",
         *listed(ways, shortest, "the sample"),
     ]

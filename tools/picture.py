@@ -1,4 +1,4 @@
-"""A picture of a play as SVG, of the report's text alone: clients as lanes, calls as bars in each other, shared calls as ticks."""
+"""A picture of a play as SVG, of the report alone: clients as lanes, calls as bars in each other, shared calls as ticks."""
 from collections import namedtuple
 from html import escape
 
@@ -57,7 +57,8 @@ class Drawing:
 
     def legend(self, name):
         shared = counted(sum(column.shared for column in self.columns), "shared call")
-        title = f"{name}: {counted(len(self.walk.clients), 'client')}, {shared}, from left to right in the order of the two histories"
+        clients = counted(len(self.walk.clients), "client")
+        title = f"{name}: {clients}, {shared}, from left to right in the order of the two histories"
         yield f'<text x="10" y="18" class="b">{escape(cut(title, self.right, LETTER))}</text>\n'
         for number, (shape, (_, text)) in enumerate(shapes.BARS.items()):
             x = 10 + number * 190
@@ -68,10 +69,14 @@ class Drawing:
             x, y = 18 + number % 6 * 190, 56 + number // 6 * 18
             yield f'<path class="{shape}" d="{shapes.tick(shape, x, y)}"/><text x="{x + 12}" y="{y + 4}">{text}</text>\n'
         if self.detail.place:
-            yield '<text x="10" y="100" class="g">below a tick its place: s12 is entry 12 of the store\'s history, p3 entry 3 of the pool\'s</text>\n'
+            text = "below a tick its place: s12 is entry 12 of the store's history, p3 entry 3 of the pool's"
+            yield f'<text x="10" y="100" class="g">{text}</text>\n'
 
     def foot(self, left_out, y):
-        return f'<text x="10" y="{y + 12}" class="b">{counted(left_out, "column")} more had no room here: ./play --show has all</text>\n' if left_out else ""
+        if not left_out:
+            return ""
+        text = f"{counted(left_out, 'column')} more had no room here: ./play --show has all"
+        return f'<text x="10" y="{y + 12}" class="b">{text}</text>\n'
 
     def strip(self, lanes, y):
         """The text of a strip, and where the next one begins."""
@@ -89,7 +94,8 @@ class Drawing:
             self.path("l", f"M6 {y - 5}H{self.right}")
         waiting = [f"client {lane.client} in {lane.parts[-1].bar.frame.method}" for lane in lanes if not lane.columns]
         if waiting:
-            self.texts.append(f'<text x="6" y="{y + 9}" class="g">{cut("meanwhile waiting: " + ", ".join(waiting), self.right - 8, LETTER)}</text>')
+            text = cut("meanwhile waiting: " + ", ".join(waiting), self.right - 8, LETTER)
+            self.texts.append(f'<text x="6" y="{y + 9}" class="g">{text}</text>')
             y += 18
         self.path("z", f"M6 {y - 3}H{self.right}")
         order = [each for each in self.paths if each not in "hT"] + [each for each in "hT" if each in self.paths]
@@ -124,7 +130,8 @@ class Drawing:
         if label != name and room < whole:
             # The name stands on a plate over the hatching.
             label = cut(name, whole, LETTER)
-            self.titled.append(f'<path class="P" d="{shapes.bar(x + 2, y + 3, int(len(label) * LETTER) + 3, BAR - 7)}"/>' if label else "")
+            plate = shapes.bar(x + 2, y + 3, int(len(label) * LETTER) + 3, BAR - 7)
+            self.titled.append(f'<path class="P" d="{plate}"/>' if label else "")
         if label:
             self.texts.append(f'<text x="{x + 4}" y="{y + 11}">{label}</text>')
         if throws:

@@ -67,7 +67,8 @@ def of_rollback(step, view):
     if step.tx is None:
         return ""
     rows = listed(step.tx.writes(), "and")
-    return f"transaction {step.tx.number}: what it wrote to {rows} is undone" if step.tx.writes() else f"transaction {step.tx.number}, which wrote nothing"
+    undone = f": what it wrote to {rows} is undone" if step.tx.writes() else ", which wrote nothing"
+    return f"transaction {step.tx.number}{undone}"
 
 
 def of_throw(step, view):
@@ -89,7 +90,7 @@ def of_throw(step, view):
             "mandatory": "there is no transaction", "never": "there is a transaction",
             "nested": "no savepoint can be made: savepoints are off, or the transaction is marked rollback-only",
         }.get(told["how"], "")
-    taken = next((each for each in (view.back(1), view.back(2), view.back(3)) if each is not None and each.line.kind == "take"), None)
+    taken = next((each for each in map(view.back, (1, 2, 3)) if each is not None and each.line.kind == "take"), None)
     empty = taken is not None and taken.line.told["connection"] == "empty" and taken.frame is step.frame
     return "there is no connection for it" if empty else ""
 
@@ -103,7 +104,8 @@ def why_after_read(thrown, value):
 def of_rules(step, view):
     by = step.line.told["by"]
     if by == "default":
-        return "no rule matches: " + ("RuntimeException and Error roll back" if step.line.told["decision"] == "rollback" else "a checked exception commits")
+        rolls_back = step.line.told["decision"] == "rollback"
+        return f"no rule matches: {'RuntimeException and Error roll back' if rolls_back else 'a checked exception commits'}"
     text = view.rule(step.frame.method, int(by))
     return f"the nearest rule: {text}" if text else ""
 

@@ -44,13 +44,17 @@ FORMS = {
     "rules": rf"rules (?P<decision>rollback|keep) by (?P<by>default|{NUMBER})",
     "end": "end (?P<ending>commit|rollback|unexpected)",
     "mark_global": "mark_global", "mark": "mark",
-    "register": f"register {LABEL}", "publish": f"publish (?P<event>{NAME})", "skip": f"skip {LABEL}", "listen": f"listen {LABEL}",
-    "before_commit": f"before_commit {LABEL}", "before_completion": f"before_completion {LABEL}", "after_commit": f"after_commit {LABEL}",
+    "register": f"register {LABEL}", "publish": f"publish (?P<event>{NAME})",
+    "skip": f"skip {LABEL}", "listen": f"listen {LABEL}",
+    "before_commit": f"before_commit {LABEL}", "before_completion": f"before_completion {LABEL}",
+    "after_commit": f"after_commit {LABEL}",
     "after_completion": f"after_completion {LABEL} (?P<status>committed|rolled_back)",
     "leave": rf"leave {METHOD}(?: throws (?P<thrown>{CLASS}))?",
 }
 PATTERNS = {word: re.compile(re.sub("@([ps])$", rf"@(?P<history>\1)(?P<at>{NUMBER})", form)) for word, form in FORMS.items()}
-JOURNAL = re.compile(rf"commit (?P<number>{NUMBER}) client (?P<client>{NUMBER}) (?:tx (?P<tx>{NUMBER})|auto) @s(?P<place>{NUMBER})")
+JOURNAL = re.compile(
+    rf"commit (?P<number>{NUMBER}) client (?P<client>{NUMBER}) (?:tx (?P<tx>{NUMBER})|auto) @s(?P<place>{NUMBER})"
+)
 ROWS = re.compile(rf"row (?P<row>{NAME}) (?P<value>{VALUE})")
 
 

@@ -57,7 +57,8 @@ class Scenario:
         for number, each in tables(document.get("listeners")):
             made = Listener(
                 text_in(each, "name"), text_in(each, "event"), text_in(each, "phase", "after_commit"),
-                number_in(each, "order", 2**31 - 1), each.get("fallback") is True, texts(each.get("body", [])), f"listeners[{number}]",
+                number_in(each, "order", 2**31 - 1), each.get("fallback") is True, texts(each.get("body", [])),
+                f"listeners[{number}]",
             )
             self.listeners.setdefault(made.name, made)
         self.steps, self.chains = {}, {}
@@ -66,7 +67,8 @@ class Scenario:
     def add_method(self, number, table):
         bean = text_in(table, "bean")
         tx = table.get("tx", self.beans.get(bean))
-        made = Method(number, bean, text_in(table, "name"), tx if isinstance(tx, dict) else None, texts(table.get("body", [])), f"methods[{number}]")
+        tx = tx if isinstance(tx, dict) else None
+        made = Method(number, bean, text_in(table, "name"), tx, texts(table.get("body", [])), f"methods[{number}]")
         self.methods.setdefault(f"{bean}.{made.name}", made)
 
     def propagation(self, method):

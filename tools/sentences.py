@@ -94,7 +94,8 @@ def wrong_statement(text):
     if verb not in STATEMENTS:
         meant = nearest(verb, STATEMENTS)
         fixed = " ".join([meant, *words[1:]]) if meant else ""
-        return f"no statement begins with `{verb}`; they begin with {listed(STATEMENTS)}", fixed if statement_of(fixed) else STATEMENTS.get(meant, "")
+        why = f"no statement begins with `{verb}`; they begin with {listed(STATEMENTS)}"
+        return why, fixed if statement_of(fixed) else STATEMENTS.get(meant, "")
     one = " ".join(words)
     if one != text and statement_of(one):
         return "exactly one space stands between words, and none before or after", one
@@ -131,10 +132,16 @@ def wrong_call(verb, words, form):
     if len(words) == 3 and words[1] == "catch":
         return f"`{words[2]}` is no class name: one to eight names joined by dots, at most 64 bytes", ""
     if len(words) == 2:
-        return f"{form} is the form: `catch` goes with a class", f"{verb} {target}" if words[1] == "catch" else f"{verb} {target} catch {words[1]}"
+        meant = f"{verb} {target}" if words[1] == "catch" else f"{verb} {target} catch {words[1]}"
+        return f"{form} is the form: `catch` goes with a class", meant
     if len(words) == 3 and nearest(words[1], ["catch"]):
         return f"{form} is the form", f"{verb} {target} catch {words[2]}"
     return f"{form} is the form, and here are too many words", f"{verb} {target}"
+
+
+SPRINGS_RULES = {
+    "rollbackfor": "rollback", "rollback_for": "rollback", "norollbackfor": "keep", "norollback": "keep", "commit": "keep",
+}
 
 
 def wrong_rule(text):
@@ -144,8 +151,7 @@ def wrong_rule(text):
     one = " ".join(words)
     if one != text and rule_of(one):
         return "exactly one space stands between words, and none before or after", one
-    spring = {"rollbackfor": "rollback", "norollbackfor": "keep", "norollback": "keep", "commit": "keep", "rollback_for": "rollback"}
-    meant = spring.get(words[0].lower().rstrip("=:"), "") or nearest(words[0], ["rollback", "keep"]) if words else ""
+    meant = SPRINGS_RULES.get(words[0].lower().rstrip("=:"), "") or nearest(words[0], ["rollback", "keep"]) if words else ""
     fixed = " ".join([meant, *(each.replace(".class", "") for each in words[1:])])
     if words and words[0] in ("rollback", "keep") and len(words) == 2 and words[1].endswith(".class"):
         return forms, f"{words[0]} {words[1][:-6]}"

@@ -42,13 +42,22 @@ def tick_of(line):
     return KINDS[line.kind]
 
 
+# Texts, lines between lanes and strips, and the plates below names.
+TEXTS = (
+    "text{font:10px monospace;fill:#111}.s{font-size:9px;text-anchor:middle}.g{fill:#555}.b{font-weight:bold}"
+    ".l{stroke:#ccc}.z{stroke:#555;stroke-width:2}.P{fill:#fff}"
+)
+HATCHING = (
+    '<pattern id="h" width="5" height="5" patternUnits="userSpaceOnUse" patternTransform="rotate(45)">'
+    '<path d="M0 0V5" stroke="#333" stroke-width="1.6"/></pattern>'
+)
+
+
 def head():
     """The styles, and the pattern of what is set aside."""
     styles = "".join(f".{name}{{{style}}}" for name, (_, style, _) in TICKS.items())
     styles += "".join(f".{name}{{{style}}}\n" for name, (style, _) in BARS.items())
-    text = "text{font:10px monospace;fill:#111}.s{font-size:9px;text-anchor:middle}.g{fill:#555}.b{font-weight:bold}.l{stroke:#ccc}.z{stroke:#555;stroke-width:2}.P{fill:#fff}"
-    pattern = '<pattern id="h" width="5" height="5" patternUnits="userSpaceOnUse" patternTransform="rotate(45)"><path d="M0 0V5" stroke="#333" stroke-width="1.6"/></pattern>'
-    return f"<style>{text}\n{styles}</style>\n<defs>{pattern}</defs>\n"
+    return f"<style>{TEXTS}\n{styles}</style>\n<defs>{HATCHING}</defs>\n"
 
 
 def number(value):

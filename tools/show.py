@@ -5,8 +5,10 @@ from tools.reasons import View
 from tools.summary import summary_lines
 
 COLOURS = {
-    "commit": "32;1", "rollback": "31;1", "back_to": "31", "throw": "33", "swallow": "33", "catch": "33", "mark": "31", "mark_global": "31",
-    "call": "1", "this": "1", "leave": "1", "top": "36;1", "skip": "35", "suspend": "34", "resume": "34", "unbind": "34", "bind": "34",
+    "commit": "32;1", "rollback": "31;1", "back_to": "31", "mark": "31", "mark_global": "31",
+    "throw": "33", "swallow": "33", "catch": "33", "skip": "35",
+    "call": "1", "this": "1", "leave": "1", "top": "36;1",
+    "suspend": "34", "resume": "34", "unbind": "34", "bind": "34",
 }
 DIM = "2"
 COLUMN = 44

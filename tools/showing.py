@@ -62,9 +62,11 @@ def show_one(words, name, text, scenario, many):
     try:
         if words.show:
             out((f"== {name}\n" if many else "") + show.shown(walk, scenario, show.wants_colour(words.colour)))
-        for path, made in ((words.picture, picture(walk, name) if words.picture else ""), (words.trace, trace(walk, scenario) if words.trace else "")):
-            if path:
-                write_target(path, made)
-                say(f"{path} is written")
+        if words.picture:
+            write_target(words.picture, picture(walk, name))
+            say(f"{words.picture} is written")
+        if words.trace:
+            write_target(words.trace, trace(walk, scenario))
+            say(f"{words.trace} is written")
     except order.Fault as fault:
         raise Stop(f"{name}: {fault}") from None

@@ -11,9 +11,11 @@ def tx_text(tx):
     """What became of one transaction."""
     rows = tx.writes()
     if tx.ended == "commit":
-        what = f"COMMITTED as number {tx.commit}: {rows_text(rows)}" if rows else f"committed as number {tx.commit}, and wrote nothing"
+        what = f"COMMITTED as number {tx.commit}: {rows_text(rows)}"
+        what = what if rows else f"committed as number {tx.commit}, and wrote nothing"
     else:
-        what = f"ROLLED BACK: {listed(rows, 'and')} {'stays as it was' if len(rows) == 1 else 'stay as they were'}" if rows else "rolled back, and had written nothing"
+        what = f"ROLLED BACK: {listed(rows, 'and')} {'stays as it was' if len(rows) == 1 else 'stay as they were'}"
+        what = what if rows else "rolled back, and had written nothing"
     lost = [row for row in tx.undone if row not in rows or tx.ended != "commit"]
     if tx.ended == "commit" and lost:
         what += f"; what was written to {listed(lost, 'and')} was undone at a savepoint"

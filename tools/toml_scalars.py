@@ -66,7 +66,8 @@ def string(text, start):
                 at += 1
             return "".join(parts), at, ""
         if text[at : at + 1] != "\\" or mark[0] == "'":
-            return "", at, "this string isn't closed" if text[at : at + 1] in ("", "\n", "\r") else "a string can't hold this character"
+            closed = text[at : at + 1] not in ("", "\n", "\r")
+            return "", at, "a string can't hold this character" if closed else "this string isn't closed"
         line_end = LINE_END.match(text, at + 1) if len(mark) == 3 else None
         if line_end:
             at = line_end.end()

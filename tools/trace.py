@@ -24,8 +24,9 @@ def frame_event(frame, client, when):
         told["ending"] = frame.ending
     if frame.thrown:
         told["throws"] = frame.thrown
-    start = when[frame.first]
-    return {"name": name, "cat": "call", "ph": "X", "pid": PID, "tid": client, "ts": start, "dur": when[frame.last] - start + 1, "args": told}
+    start, end = when[frame.first], when[frame.last]
+    made = {"name": name, "cat": "call", "ph": "X", "pid": PID, "tid": client}
+    return {**made, "ts": start, "dur": end - start + 1, "args": told}
 
 
 def step_event(steps, at, client, when, view):
@@ -34,9 +35,10 @@ def step_event(steps, at, client, when, view):
     reason = view.reason(steps, at)
     if reason:
         told["reason"] = reason
-    shared = line.place is not None
-    made = {"name": line.text, "cat": {"p": "pool", "s": "store"}[line.place[0]] if shared else "line", "pid": PID, "tid": client, "ts": when[at], "args": told}
-    return {**made, "ph": "X", "dur": 1} if shared else {**made, "ph": "i", "s": "t"}
+    made = {"name": line.text, "pid": PID, "tid": client, "ts": when[at], "args": told}
+    if line.place is None:
+        return {**made, "cat": "line", "ph": "i", "s": "t"}
+    return {**made, "cat": {"p": "pool", "s": "store"}[line.place[0]], "ph": "X", "dur": 1}
 
 
 def events(walk, scenario):
@@ -45,10 +47,12 @@ def events(walk, scenario):
     whens = times(walk)
     for client in walk.clients:
         when = whens[client.number]
-        found.append({"name": "thread_name", "ph": "M", "pid": PID, "tid": client.number, "args": {"name": f"client {client.number}"}})
+        name = {"name": f"client {client.number}"}
+        found.append({"name": "thread_name", "ph": "M", "pid": PID, "tid": client.number, "args": name})
         found += [frame_event(frame, client.number, when) for frame in client.frames]
-        kinds = ("call", "this", "leave", "top")
-        found += [step_event(client.steps, at, client.number, when, view) for at, step in enumerate(client.steps) if step.line.kind not in kinds]
+        for at, step in enumerate(client.steps):
+            if step.line.kind not in ("call", "this", "leave", "top"):
+                found.append(step_event(client.steps, at, client.number, when, view))
     return found
 
 

@@ -90,8 +90,8 @@ def out_of_order(path, rules, scenario):
         here, there = winner(scenario, rules, name), winner(scenario, [rules[each] for each in spring], name)
         if here is not None and rules[here].rollback != rules[spring[there]].rollback:
             yield f"{path}[{here}]", (
-                f"for {name} this rule and `rollback` rule {spring[there]} are equally near, and the first one wins: keep. Spring reads an "
-                "annotation's rollbackFor before its noRollbackFor, so there it would roll back: put the rollback rules first"
+                f"for {name} this rule and `rollback` rule {spring[there]} are equally near, and the first one wins: keep. Spring "
+                "reads an annotation's rollbackFor before its noRollbackFor, so there it would roll back: put the rollback rules first"
             )
             return
 
