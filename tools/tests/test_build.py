@@ -15,17 +15,22 @@ from tools.sources import TOP
 FIRST = (TOP / "examples" / "first.toml").read_bytes()
 REPORT = (TOP / "examples" / "first.report").read_bytes()
 
-# What `rt try --cases FOLDER -- WORDS` does, with the stand-in as the program.
-RT = """#!{python}
-import pathlib, subprocess, sys
-if sys.argv[1:2] != ["try"]:
-    pathlib.Path("{here}/said").open("a").write(" ".join(sys.argv[1:]) + " in " + pathlib.Path.cwd().name + "\\n")
-    sys.exit({status})
-pathlib.Path("{here}/tries").open("a").write("x")
+# What `rt try --cases FOLDER -- WORDS` does, with the stand-in as the program. Other commands are noted.
+RT = """#!/bin/sh
+if [ "$1" != try ]; then
+  echo "$* in $(basename "$PWD")" >>"{here}/said"
+  exit {status}
+fi
+printf x >>"{here}/tries"
+exec "{python}" -S -B "{here}/try.py" "$@"
+"""
+TRY = """
+import pathlib, sys
+sys.path.insert(0, "{top}")
+from tools.tests.stand_in import main
 for file in sorted(pathlib.Path(sys.argv[3]).iterdir()):
-    done = subprocess.run([sys.executable, "-S", "-B", "{stand_in}", *sys.argv[5:]], stdin=file.open(), stdout=subprocess.PIPE)
-    sys.stdout.buffer.write(b"== " + file.name.encode() + b"\\n" + done.stdout)
-    sys.stdout.flush()
+    status, text = main(sys.argv[5:], file.read_bytes())
+    sys.stdout.buffer.write(b"== " + file.name.encode() + b"\\n" + text)
     print(f"case={{file.name}} {say}", file=sys.stderr)
 print("cases=1 proved=no", file=sys.stderr)
 """
@@ -48,9 +53,10 @@ class Building(unittest.TestCase):
             each.stop()
         self.folder.cleanup()
 
-    def rt(self, say="run=ended status={done.returncode} runners=1 proved=no", status=0):
+    def rt(self, say="run=ended status={status} runners=1 proved=no", status=0):
         path = self.here / "rt"
-        path.write_text(RT.format(python=sys.executable, here=self.here, stand_in=TOP / "tools" / "tests" / "stand_in.py", say=say, status=status))
+        path.write_text(RT.format(python=sys.executable, here=self.here, status=status))
+        (self.here / "try.py").write_text(TRY.format(top=TOP, say=say))
         path.chmod(0o755)
 
     def tries(self):
