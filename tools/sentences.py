@@ -2,7 +2,7 @@
 import re
 from collections import namedtuple
 
-from tools.form import BUILT_IN, RULES, STATEMENTS, listed
+from tools.form import BUILT_IN, STATEMENTS
 from tools.nearest import nearest
 
 NAME = re.compile(r"[A-Za-z_][A-Za-z0-9_]{0,31}")
@@ -94,8 +94,7 @@ def wrong_statement(text):
     if verb not in STATEMENTS:
         meant = nearest(verb, STATEMENTS)
         fixed = " ".join([meant, *words[1:]]) if meant else ""
-        why = f"no statement begins with `{verb}`; they begin with {listed(STATEMENTS)}"
-        return why, fixed if statement_of(fixed) else STATEMENTS.get(meant, "")
+        return f"none begins with `{verb}`", fixed if statement_of(fixed) else STATEMENTS.get(meant, "")
     one = " ".join(words)
     if one != text and statement_of(one):
         return "exactly one space stands between words, and none before or after", one
@@ -147,7 +146,7 @@ SPRINGS_RULES = {
 def wrong_rule(text):
     """Why a text is no rule, and the text that may be meant, or ""."""
     words = text.split()
-    forms = f"a rule is {listed(f'`{each}`' for each in RULES)}"
+    forms = "a rule is the word rollback or keep, a space, and a class or a ~PATTERN"
     one = " ".join(words)
     if one != text and rule_of(one):
         return "exactly one space stands between words, and none before or after", one
