@@ -11,6 +11,7 @@ import org.springframework.transaction.interceptor.NoRollbackRuleAttribute;
 import org.springframework.transaction.interceptor.RollbackRuleAttribute;
 import org.springframework.transaction.interceptor.RuleBasedTransactionAttribute;
 import org.springframework.transaction.interceptor.TransactionAttribute;
+import org.springframework.util.ClassUtils;
 
 /** A transaction attribute, as Spring's own source of attributes reads it, and what of it a scenario has no word for. */
 record Attribute(String propagation, boolean readOnly, List<Rule> rules, List<String> leftOut) {
@@ -27,10 +28,23 @@ record Attribute(String propagation, boolean readOnly, List<Rule> rules, List<St
 
     private static final Source SOURCE = new Source();
 
-    /** The attribute that Spring gives a method of a bean: its own, else its class's; null where it has none. */
+    /**
+     * The attribute that Spring gives a method of a bean: its own, else its class's, else that of the interface method by which
+     * it is called; null where there is none.
+     */
     static Attribute of(Method method, Class<?> bean) {
         TransactionAttribute found = SOURCE.getTransactionAttribute(method, bean);
-        return found == null ? null : read(found, annotationOf(method, bean));
+        if (found != null) {
+            return read(found, annotationOf(method, bean));
+        }
+        for (Class<?> type : ClassUtils.getAllInterfacesForClassAsSet(bean)) {
+            Method called = ClassUtils.getMethodIfAvailable(type, method.getName(), method.getParameterTypes());
+            found = called == null ? null : SOURCE.getTransactionAttribute(called, bean);
+            if (found != null) {
+                return read(found, annotationOf(called, type));
+            }
+        }
+        return null;
     }
 
     static Attribute of(Class<?> bean) {

@@ -9,6 +9,7 @@ import org.objectweb.asm.Type;
 import org.objectweb.asm.tree.AbstractInsnNode;
 import org.objectweb.asm.tree.ClassNode;
 import org.objectweb.asm.tree.FieldInsnNode;
+import org.objectweb.asm.tree.InvokeDynamicInsnNode;
 import org.objectweb.asm.tree.JumpInsnNode;
 import org.objectweb.asm.tree.LookupSwitchInsnNode;
 import org.objectweb.asm.tree.MethodInsnNode;
@@ -27,7 +28,7 @@ import org.objectweb.asm.tree.analysis.SourceValue;
 final class ByteCode {
 
     /** A step: a call on a field of this (or on this itself, where the field is null), with what catches its exceptions. */
-    sealed interface Step permits Call, Publish, Throw, Mark {}
+    sealed interface Step permits Call, Publish, Throw, Mark, Left {}
 
     record Call(String field, String fieldType, String method, String descriptor, String caught) implements Step {}
 
@@ -37,6 +38,9 @@ final class ByteCode {
     record Throw(String exception, boolean isSure) implements Step {}
 
     record Mark() implements Step {}
+
+    /** What has no form in a scenario. */
+    record Left(String what) implements Step {}
 
     private static final String PUBLISHER = "org/springframework/context/ApplicationEventPublisher";
 
@@ -108,11 +112,11 @@ final class ByteCode {
             }
             if (step instanceof MethodInsnNode call && call.getOpcode() != Opcodes.INVOKESTATIC) {
                 readCall(call);
+            } else if (step instanceof InvokeDynamicInsnNode lambda && lambda.bsm.getName().contains("etafactory")) {
+                steps.add(new Left("what a lambda does"));
             } else if (step.getOpcode() == Opcodes.ATHROW) {
                 String thrown = newTypeOf(stackAt(step, 0));
-                if (thrown != null) {
-                    steps.add(new Throw(thrown, isSure));
-                }
+                steps.add(thrown == null ? new Left("a throw of what isn't made on the spot") : new Throw(thrown, isSure));
             }
         }
     }
@@ -124,7 +128,9 @@ final class ByteCode {
         }
         int arguments = Type.getArgumentTypes(call.desc).length;
         AbstractInsnNode receiver = only(stackAt(call, arguments));
-        if (isThis(receiver) && call.owner.equals(owner.name) && !call.name.equals("<init>")) {
+        if (isThis(receiver) && call.getOpcode() == Opcodes.INVOKESPECIAL && !call.owner.equals(owner.name)) {
+            steps.add(new Left("super." + call.name + "(..)"));
+        } else if (isThis(receiver) && call.owner.equals(owner.name) && !call.name.equals("<init>")) {
             steps.add(new Call(null, null, call.name, call.desc, caughtAt(call)));
         } else if (receiver instanceof FieldInsnNode field && isOfThis(field)) {
             if (call.name.equals("publishEvent") && Type.getType(field.desc).getInternalName().equals(PUBLISHER)) {

@@ -109,6 +109,8 @@ final class Skeleton {
                 addPublication(bean, publish, body, comments);
             } else if (step instanceof ByteCode.Throw thrown) {
                 addThrow(bean, thrown, body, comments);
+            } else if (step instanceof ByteCode.Left left) {
+                comments.add("left out: " + left.what());
             } else {
                 body.add("mark");
             }

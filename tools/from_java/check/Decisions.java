@@ -8,6 +8,7 @@ import org.springframework.core.annotation.AnnotationUtils;
 import org.springframework.stereotype.Component;
 import org.springframework.transaction.annotation.AnnotationTransactionAttributeSource;
 import org.springframework.transaction.interceptor.TransactionAttribute;
+import org.springframework.util.ClassUtils;
 
 /**
  * Prints what Spring itself decides: Decisions CLASS.. For each method of each class that is a bean: whether it has an
@@ -50,7 +51,7 @@ public final class Decisions {
                 continue;
             }
             String name = nameOf(bean) + "." + method.getName();
-            TransactionAttribute attribute = source.getTransactionAttribute(method, bean);
+            TransactionAttribute attribute = attributeOf(source, method, bean);
             if (attribute == null) {
                 System.out.println((Modifier.isPrivate(method.getModifiers()) ? "private " : "none ") + name);
                 continue;
@@ -58,6 +59,17 @@ public final class Decisions {
             exceptions.forEach((thrown, exception) ->
                 System.out.println("rules " + name + " " + thrown + (attribute.rollbackOn(exception) ? " rollback" : " keep")));
         }
+    }
+
+    /** The attribute of a method, by whichever interface it is called, or else by its class. */
+    private static TransactionAttribute attributeOf(AnnotationTransactionAttributeSource source, Method method, Class<?> bean) {
+        for (Class<?> type : bean.getInterfaces()) {
+            Method called = ClassUtils.getMethodIfAvailable(type, method.getName(), method.getParameterTypes());
+            if (called != null) {
+                return source.getTransactionAttribute(called, bean);
+            }
+        }
+        return source.getTransactionAttribute(method, bean);
     }
 
     private static String nameOf(Class<?> bean) {

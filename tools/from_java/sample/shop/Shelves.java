@@ -16,4 +16,9 @@ public class Shelves implements Stock {
         }
         left -= count;
     }
+
+    @Override
+    public int left() {
+        return left;
+    }
 }
