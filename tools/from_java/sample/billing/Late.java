@@ -1,0 +1,3 @@
+package billing;
+
+public class Late extends Exception {}

@@ -1,0 +1,3 @@
+package billing;
+
+public class VeryLate extends Late {}
