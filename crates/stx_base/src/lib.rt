@@ -18,6 +18,6 @@ pub use facts::StoreFacts;
 pub use history::{Access, Answer, Note, PoolEntry, PoolNote, StoreEntry, StoreNote};
 pub use laws::ranks_are_longest_ways;
 pub use line::{Label, Line};
-pub use manager::{Ending, Kind, Opening, Round};
+pub use manager::{Action, Ending, Kind, Opening, Round};
 pub use outcome::{ClientLines, Outcome, Report, ToolEnd};
 pub use token::{Connection, Session};

@@ -34,6 +34,25 @@ pub enum Ending {
     Unexpected,
 }
 
+/// One step of a scope's completion (`AbstractPlatformTransactionManager`, `processCommit`, `processRollback`).
+#[derive(Clone, Copy, Debug, PartialEq, Eq)]
+pub enum Action {
+    RoundBeforeCompletion,
+    RoundAfterCommit,
+    /// The callbacks are told whether the scope has committed.
+    RoundAfterCompletion { committed: bool },
+    CommitStore,
+    RollbackStore,
+    BackToPoint,
+    ReleasePoint,
+    MarkGlobally,
+    /// UnexpectedRollbackException arises.
+    ThrowUnexpected,
+    GiveBack,
+    /// What was suspended is resumed.
+    Resumption,
+}
+
 /// The callbacks of the registrations, one round after the other (`TransactionSynchronization`).
 #[derive(Clone, Copy, Debug, PartialEq, Eq)]
 pub enum Round {

@@ -6,6 +6,6 @@ mod endings;
 mod openings;
 mod scope;
 
-pub use endings::ending;
+pub use endings::{completion, ending};
 pub use openings::opening;
 pub use scope::Scope;

@@ -6,6 +6,7 @@ use Rattle.stx_scenario.specs.declared.numbers.MethodNo.{MethodNo}
 use Rattle.stx_scenario.specs.declared.scenario.Scenario.{Scenario}
 use Rattle.stx_scenario.specs.declared.scenario.Propagation.{Propagation}
 use Rattle.stx_scenario.specs.declared.scenario.TxAttr.{TxAttr}
+use Rattle.stx_base.specs.declared.manager.Action.{Action}
 use Rattle.stx_base.specs.declared.call.Want.{Want}
 use Rattle.stx_base.specs.declared.history.PoolNote.{PoolNote}
 use Rattle.stx_base.specs.declared.history.StoreNote.{StoreNote}
@@ -16,7 +17,7 @@ use Rattle.stx_base.specs.declared.manager.Opening.{Opening}
 use Rattle.stx_base.specs.declared.manager.Ending.{Ending}
 use Rattle.stx_base.specs.declared.manager.Round.{Round}
 use Rattle.stx_model.specs.Contexts.{Context, Live, is_active, ordered_labels}
-use Rattle.stx_model.specs.Ending.{Action, RoundBeforeCompletion, RoundAfterCommit, RoundAfterCompletion, CommitStore, RollbackStore, ThrowUnexpected, GiveBack, Resumption, completion, completion_after, has_before_commit, ending}
+use Rattle.stx_model.specs.Ending.{completion, completion_after, has_before_commit, ending}
 use Rattle.stx_base.specs.declared.history.Note.{Note}
 use Rattle.stx_base.specs.Notes.{is_answer}
 use Rattle.stx_model.specs.Meanings.{State, Result, Over, Stops, Breaks, Meaning, finally, say, with_context, with_local, unread, hear, answered, ask, on_take, on_begin}
@@ -102,39 +103,39 @@ module _ (S : Scenario) (calls : Calls) (scope : Scope) (older : Context) (is_ol
   abbrev Gives : List Action → Type 0
   Gives actions = (x : Option ClassNo) (st : State) → AtEnd (acts S calls scope actions x st) (Apart older scope.outer)
 
-  resumes : Gives (Resumption ∷ [])
+  resumes : Gives (Action.Resumption ∷ [])
   unfolding acts
   resumes x st = subst (λ o. AtEnd (acts S calls scope [] x (resumed o st)) (Apart older scope.outer)) (sym is_older) (resume_gives older st, refl)
 
-  before_completion : (rest : List Action) → Gives rest → Gives (RoundBeforeCompletion ∷ rest)
+  before_completion : (rest : List Action) → Gives rest → Gives (Action.RoundBeforeCompletion ∷ rest)
   unfolding acts
   before_completion rest gives x st = finally_at_end (Apart older scope.outer) _ (λ _. acts S calls scope rest x) (λ y after. gives x after)
 
-  after_commit : (rest : List Action) → Gives rest → Gives (RoundAfterCommit ∷ rest)
+  after_commit : (rest : List Action) → Gives rest → Gives (Action.RoundAfterCommit ∷ rest)
   unfolding acts
   after_commit rest gives x st =
       finally_at_end (Apart older scope.outer) _ (λ y. acts S calls scope rest (later_or y x)) (λ y after. gives (later_or y x) after)
 
-  after_completion : (committed : Bool) (rest : List Action) → Gives rest → Gives (RoundAfterCompletion committed ∷ rest)
+  after_completion : (committed : Bool) (rest : List Action) → Gives rest → Gives (Action.RoundAfterCompletion committed ∷ rest)
   unfolding acts
   after_completion committed rest gives x st = finally_at_end (Apart older scope.outer) _ (λ _. acts S calls scope rest x) (λ y after. gives x after)
 
-  commit : (rest : List Action) → Gives rest → Gives (CommitStore ∷ rest)
+  commit : (rest : List Action) → Gives rest → Gives (Action.CommitStore ∷ rest)
   unfolding acts
   commit rest gives x st =
       live_at_end (Apart older scope.outer) st.context.tx _ st (λ live. ask_at_end (Apart older scope.outer) (Want.Commit live.transaction) (λ _. acts S calls scope rest x) st (λ n. gives x (hear n st)))
 
-  rollback : (rest : List Action) → Gives rest → Gives (RollbackStore ∷ rest)
+  rollback : (rest : List Action) → Gives rest → Gives (Action.RollbackStore ∷ rest)
   unfolding acts
   rollback rest gives x st =
       live_at_end (Apart older scope.outer) st.context.tx _ st (λ live. ask_at_end (Apart older scope.outer) (Want.Rollback live.transaction) (λ _. acts S calls scope rest x) st (λ n. gives x (hear n st)))
 
-  give_back : (rest : List Action) → Gives rest → Gives (GiveBack ∷ rest)
+  give_back : (rest : List Action) → Gives rest → Gives (Action.GiveBack ∷ rest)
   unfolding acts
   give_back rest gives x st =
       live_at_end (Apart older scope.outer) st.context.tx _ st (λ live. ask_at_end (Apart older scope.outer) (Want.Give live.connection) (λ _. acts S calls scope rest x) st (λ n. gives x (hear n st)))
 
-  unexpected : (rest : List Action) → Gives rest → Gives (ThrowUnexpected ∷ rest)
+  unexpected : (rest : List Action) → Gives rest → Gives (Action.ThrowUnexpected ∷ rest)
   unfolding acts
   unexpected rest gives x st = gives _ _
 

@@ -15,6 +15,7 @@ use Rattle.stx_scenario.specs.declared.scenario.Listener.{Listener}
 use Rattle.stx_scenario.specs.declared.scenario.Propagation.{Propagation}
 use Rattle.stx_scenario.specs.declared.scenario.Stmt.{Stmt}
 use Rattle.stx_scenario.specs.declared.scenario.TxAttr.{TxAttr}
+use Rattle.stx_base.specs.declared.manager.Action.{Action}
 use Rattle.stx_base.specs.declared.call.Want.{Want}
 use Rattle.stx_base.specs.declared.history.Access.{Access}
 use Rattle.stx_base.specs.declared.history.Answer.{Answer}
@@ -28,7 +29,7 @@ use Rattle.stx_base.specs.Attributes.{attribute}
 use Rattle.stx_base.specs.Weight.{body_of, rank}
 use Rattle.stx_model.specs.Contexts.{Context, Live, Registration, is_active, is_live, marked_globally, ordered, ordered_labels, registered, with_global_mark, without_syncs}
 use Rattle.stx_model.specs.Opening.{opening, opening_in, opening_without}
-use Rattle.stx_model.specs.Ending.{Action, RoundBeforeCompletion, RoundAfterCommit, RoundAfterCompletion, CommitStore, RollbackStore, BackToPoint, ReleasePoint, MarkGlobally, ThrowUnexpected, GiveBack, Resumption, ending, has_before_commit, completion, completion_after}
+use Rattle.stx_model.specs.Ending.{ending, has_before_commit, completion, completion_after}
 use Rattle.stx_model.specs.Listeners.{Deed, Register, RunNow, Skip, deeds, runs_in}
 use Rattle.stx_base.specs.Notes.{is_answer}
 use Rattle.stx_base.specs.declared.history.Note.{Note}
@@ -170,13 +171,13 @@ record Spans (S : Scenario) (k i j : ℕ) (scope : Scope) : Type 0 where
 -- was suspended is resumed last
 abbrev Ready : Option Context → Bool → Bool → List Action → Type 0
 Ready older live out [] = live ≡ out
-Ready older live out (Resumption ∷ []) = live_again older live ≡ out
-Ready older live out (Resumption ∷ a ∷ rest) = ⊥
-Ready older live out (CommitStore ∷ rest) = (live ≡ true) × Ready older live out rest
-Ready older live out (RollbackStore ∷ rest) = (live ≡ true) × Ready older live out rest
-Ready older live out (BackToPoint ∷ rest) = (live ≡ true) × Ready older live out rest
-Ready older live out (ReleasePoint ∷ rest) = (live ≡ true) × Ready older live out rest
-Ready older live out (GiveBack ∷ rest) = (live ≡ true) × Ready older live out rest
+Ready older live out (Action.Resumption ∷ []) = live_again older live ≡ out
+Ready older live out (Action.Resumption ∷ a ∷ rest) = ⊥
+Ready older live out (Action.CommitStore ∷ rest) = (live ≡ true) × Ready older live out rest
+Ready older live out (Action.RollbackStore ∷ rest) = (live ≡ true) × Ready older live out rest
+Ready older live out (Action.BackToPoint ∷ rest) = (live ≡ true) × Ready older live out rest
+Ready older live out (Action.ReleasePoint ∷ rest) = (live ≡ true) × Ready older live out rest
+Ready older live out (Action.GiveBack ∷ rest) = (live ≡ true) × Ready older live out rest
 Ready older live out (a ∷ rest) = Ready older live out rest
 
 -- a scope of this kind, likewise
@@ -375,39 +376,39 @@ module _ (S : Scenario) (calls : Calls) (k : ℕ) (calls_sound : AreSound S k ca
         → Brings (At S i live) (At S j out) (acts S calls scope actions x)
     unfolding acts
     acts_end [] x ready st fits = (fits.0 ∙ ready, registered_raise S i j spans.outside (registered st.context.syncs) fits.1)
-    acts_end (RoundBeforeCompletion ∷ rest) x ready st fits =
+    acts_end (Action.RoundBeforeCompletion ∷ rest) x ready st fits =
         let round = swallowing_round S calls Round.BeforeCompletion false in
         finally_ends (At S i live) (At S j out) (round_of scope.owns round st) (λ _. acts S calls scope rest x)
         (round_of_ends i live scope.owns round spans.inside spans.own (swallowing_sound Round.BeforeCompletion false) st fits) (λ _. acts_end rest x ready)
-    acts_end (RoundAfterCommit ∷ rest) x ready st fits =
+    acts_end (Action.RoundAfterCommit ∷ rest) x ready st fits =
         let round = stopping_round S calls Round.AfterCommit in
         finally_ends (At S i live) (At S j out) (round_of scope.owns round st) (λ y. acts S calls scope rest (later_or y x))
         (round_of_ends i live scope.owns round spans.inside spans.own (stopping_sound Round.AfterCommit) st fits) (λ y. acts_end rest (later_or y x) ready)
-    acts_end (RoundAfterCompletion committed ∷ rest) x ready st fits =
+    acts_end (Action.RoundAfterCompletion committed ∷ rest) x ready st fits =
         finally_ends (At S i live) (At S j out) (last_round S calls scope.owns committed st) (λ _. acts S calls scope rest x)
         (last_round_ends i live scope.owns committed spans.inside spans.own st fits) (λ _. acts_end rest x ready)
-    acts_end (CommitStore ∷ rest) x ready st fits =
+    acts_end (Action.CommitStore ∷ rest) x ready st fits =
         calls_out st (λ tx. Want.Commit tx.transaction) (λ _. acts S calls scope rest x) ready.0 fits (λ _. acts_end rest x ready.1)
-    acts_end (RollbackStore ∷ rest) x ready st fits =
+    acts_end (Action.RollbackStore ∷ rest) x ready st fits =
         calls_out st (λ tx. Want.Rollback tx.transaction) (λ _. acts S calls scope rest x) ready.0 fits (λ _. acts_end rest x ready.1)
-    acts_end (BackToPoint ∷ rest) x ready st fits =
+    acts_end (Action.BackToPoint ∷ rest) x ready st fits =
         calls_out st (λ tx. Want.BackTo tx.transaction) (λ _ back. acts S calls scope rest x
         (with_context (with_global_mark false back.context) back)) ready.0 fits
         (λ _ back still. acts_end rest x ready.1 (with_context (with_global_mark false back.context) back) (at_marked S i live false back.context still))
-    acts_end (ReleasePoint ∷ rest) x ready st fits =
+    acts_end (Action.ReleasePoint ∷ rest) x ready st fits =
         calls_out st (λ tx. Want.Release tx.transaction) (λ _. acts S calls scope rest x) ready.0 fits (λ _. acts_end rest x ready.1)
-    acts_end (MarkGlobally ∷ rest) x ready st fits =
+    acts_end (Action.MarkGlobally ∷ rest) x ready st fits =
         acts_end rest x ready (say Line.MarkGlobal (with_context (with_global_mark true st.context) st)) (at_marked S i live true st.context fits)
-    acts_end (ThrowUnexpected ∷ rest) x ready st fits =
+    acts_end (Action.ThrowUnexpected ∷ rest) x ready st fits =
         acts_end rest (Some UNEXPECTED_ROLLBACK_EXCEPTION) ready (say (Line.Throw UNEXPECTED_ROLLBACK_EXCEPTION) st) fits
-    acts_end (GiveBack ∷ rest) x ready st fits =
+    acts_end (Action.GiveBack ∷ rest) x ready st fits =
         calls_out st (λ tx. Want.Give tx.connection) (λ _. acts S calls scope rest x) ready.0 fits (λ _. acts_end rest x ready.1)
-    acts_end (Resumption ∷ []) x ready st fits = by_older scope.older spans.older ready
+    acts_end (Action.Resumption ∷ []) x ready st fits = by_older scope.older spans.older ready
       where
         by_older : (older : Option Context) → OlderBelow S j older → live_again older live ≡ out → At S j out (resumed older st).context
         by_older (Some older) below is = subst (At S j out) (sym (resume_context older st)) (is, below)
         by_older None below is = (fits.0 ∙ is, registered_raise S i j spans.outside (registered st.context.syncs) fits.1)
-    acts_end (Resumption ∷ a ∷ rest) x ready st fits = absurd ready
+    acts_end (Action.Resumption ∷ a ∷ rest) x ready st fits = absurd ready
 
     completes_end : (e : Ending) (x : Option ClassNo) → Happens scope.kind e → Opens scope.kind scope.older live out
         → Brings (At S i live) (At S j out) (completes S calls scope e x)

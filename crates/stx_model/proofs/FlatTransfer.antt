@@ -15,6 +15,7 @@ use Rattle.stx_scenario.specs.declared.scenario.Method.{Method}
 use Rattle.stx_scenario.specs.declared.scenario.Stmt.{Stmt}
 use Rattle.stx_scenario.specs.declared.scenario.Propagation.{Propagation}
 use Rattle.stx_scenario.specs.declared.scenario.TxAttr.{TxAttr}
+use Rattle.stx_base.specs.declared.manager.Action.{Action}
 use Rattle.stx_base.specs.declared.call.Want.{Want}
 use Rattle.stx_base.specs.declared.history.Access.{Access}
 use Rattle.stx_base.specs.declared.history.Answer.{Answer}
@@ -29,7 +30,7 @@ use Rattle.stx_base.specs.Weight.{body_in, body_of, above, led, leads, longest, 
 use Rattle.stx_base.proofs.ValidLaws.{entry_of}
 use Rattle.stx_model.specs.Contexts.{Context, Live, bare}
 use Rattle.stx_model.specs.Opening.{owns_fresh, opening_without, opening}
-use Rattle.stx_model.specs.Ending.{ending, completion, Resumption}
+use Rattle.stx_model.specs.Ending.{ending, completion}
 use Rattle.stx_base.specs.declared.history.Note.{Note}
 use Rattle.stx_base.specs.Notes.{is_answer}
 use Rattle.stx_model.specs.Meanings.{State, at_first, Result, Over, Stops, Breaks, Meaning, and_then, finally, say, with_context, with_local, unread, hear, answered, ask, on_take, on_begin, on_access}
@@ -192,9 +193,9 @@ abbrev fresh_scope : MethodNo → Bool → Scope
 fresh_scope m owns = record { method = m; kind = Kind.Fresh; owns = owns; older = Some bare; outer = None }
 
 module _ (S : Scenario) (calls : Calls) (m : MethodNo) (c t : ℕ) (read_only : Bool) (x : Option ClassNo) where
-  given_same : (owns : Bool) (st : State) → ask (Want.Give c) (λ _. acts S calls (fresh_scope m owns) (Resumption ∷ []) x) st ≡ flat.gives_back m c x st
+  given_same : (owns : Bool) (st : State) → ask (Want.Give c) (λ _. acts S calls (fresh_scope m owns) (Action.Resumption ∷ []) x) st ≡ flat.gives_back m c x st
   unfolding acts flat.gives_back
-  given_same owns st = ask_same (Want.Give c) (λ _. acts S calls (fresh_scope m owns) (Resumption ∷ []) x) (λ _ given. leaves m x (flat.let_go given)) st (λ n. refl) (λ n. refl)
+  given_same owns st = ask_same (Want.Give c) (λ _. acts S calls (fresh_scope m owns) (Action.Resumption ∷ []) x) (λ _ given. leaves m x (flat.let_go given)) st (λ n. refl) (λ n. refl)
 
   commits_same : (owns : Bool) (lines : List Line) (pool : List PoolNote) (store : List StoreNote)
       → (let st = state lines (fresh_context c t read_only owns) (Some false) pool store in

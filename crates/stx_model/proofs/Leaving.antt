@@ -12,6 +12,7 @@ use Rattle.stx_scenario.specs.declared.classes.TheConstants.{NESTED_TRANSACTION_
 use Rattle.std.specs.Option.{is_some}
 use Rattle.stx_scenario.specs.declared.scenario.Stmt.{Stmt}
 use Rattle.stx_scenario.specs.declared.scenario.TxAttr.{TxAttr}
+use Rattle.stx_base.specs.declared.manager.Action.{Action}
 use Rattle.stx_base.specs.declared.call.Want.{Want}
 use Rattle.stx_base.specs.declared.line.Line.{Line}
 use Rattle.stx_base.specs.declared.manager.Kind.{Kind}
@@ -21,7 +22,7 @@ use Rattle.stx_base.specs.declared.manager.Round.{Round}
 use Rattle.stx_base.specs.Attributes.{attribute}
 use Rattle.stx_base.specs.Weight.{body_of, rank}
 use Rattle.stx_model.specs.Contexts.{Context, Live, bare, Registration, is_active, is_live, registered, ordered, with_mark, marked_globally, with_global_mark, without_syncs}
-use Rattle.stx_model.specs.Ending.{Action, RoundBeforeCompletion, RoundAfterCommit, RoundAfterCompletion, CommitStore, RollbackStore, BackToPoint, ReleasePoint, MarkGlobally, ThrowUnexpected, GiveBack, Resumption, completion, completion_after, has_before_commit, ending, is_marked}
+use Rattle.stx_model.specs.Ending.{completion, completion_after, has_before_commit, ending, is_marked}
 use Rattle.stx_model.specs.Listeners.{Deed, Register, RunNow, Skip, deeds}
 use Rattle.stx_base.specs.declared.history.Note.{Note}
 use Rattle.stx_model.specs.Meanings.{State, Result, Over, Stops, Breaks, Meaning, finally, say, with_context, with_local, hear, ask}
@@ -117,14 +118,14 @@ module _ (S : Scenario) (calls : Calls) (context : Context) (before : Live) (the
 
   module _ (scope : Scope) (x : Option ClassNo) where
     releases : (st : State) (rest : List Action) (y : Option ClassNo) → ((after : State) → after.context ≡ st.context → AtEnd (acts S calls scope rest y after) Extended)
-        → AtEnd (acts S calls scope (ReleasePoint ∷ rest) y st) Extended
+        → AtEnd (acts S calls scope (Action.ReleasePoint ∷ rest) y st) Extended
     unfolding acts
     releases st rest y then =
         live_at_end Extended st.context.tx (λ live. ask (Want.Release live.transaction) (λ _. acts S calls scope rest y)) st
         (λ live. ask_at_end Extended (Want.Release live.transaction) (λ _. acts S calls scope rest y) st (λ n. then (hear n st) (hear_keeps n st).0))
 
     goes_back : (st : State) (rest : List Action) → IsKept context st.context → ((after : State) → IsOnlyExtended context after.context → AtEnd (acts S calls scope rest x after) Extended)
-        → AtEnd (acts S calls scope (BackToPoint ∷ rest) x st) Extended
+        → AtEnd (acts S calls scope (Action.BackToPoint ∷ rest) x st) Extended
     unfolding acts
     goes_back st rest kept then =
         live_at_end Extended st.context.tx
@@ -153,10 +154,10 @@ module _ (S : Scenario) (calls : Calls) (context : Context) (before : Live) (the
             releases st [] x (λ after is. extended_at after st.context
             (only_extended st.context kept (unmarked_tx before st.context.tx (kept_live st.context kept) unmarked (still refl))) is)
         by Ending.Rollback still =
-            goes_back st (ReleasePoint ∷ []) kept (λ after only. releases after [] x (λ last is. extended_at last after.context only is))
+            goes_back st (Action.ReleasePoint ∷ []) kept (λ after only. releases after [] x (λ last is. extended_at last after.context only is))
         by Ending.Unexpected still =
-            goes_back st (ReleasePoint ∷ ThrowUnexpected ∷ []) kept
-            (λ after only. releases after (ThrowUnexpected ∷ []) x (λ last is. extended_at last after.context only is))
+            goes_back st (Action.ReleasePoint ∷ Action.ThrowUnexpected ∷ []) kept
+            (λ after only. releases after (Action.ThrowUnexpected ∷ []) x (λ last is. extended_at last after.context only is))
 
   points : (m : MethodNo) (a : TxAttr) (run : Meaning) (st : State) → Keeps run → st.context ≡ context → AtEnd (within S calls m Kind.Point a run st) Extended
   unfolding in_scope ends
@@ -216,12 +217,12 @@ module _ (S : Scenario) (calls : Calls) (called : CallsKeep calls) (m : MethodNo
   is_bare context none inactive = ap (λ t. record { tx = t; syncs = context.syncs }) none ∙ ap (λ s. record { tx = None; syncs = s }) inactive
 
   -- the last round takes the registrations out
-  last : (committed : Bool) (x : Option ClassNo) (st : State) → HasNone st.context → AtEnd (acts S calls owning_scope (RoundAfterCompletion committed ∷ Resumption ∷ []) x st) IsBare
+  last : (committed : Bool) (x : Option ClassNo) (st : State) → HasNone st.context → AtEnd (acts S calls owning_scope (Action.RoundAfterCompletion committed ∷ Action.Resumption ∷ []) x st) IsBare
   unfolding acts
   last committed x st none =
       after_kept IsBare (without_syncs st.context)
       (swallowing_round S calls Round.AfterCompletion committed (ordered (registered st.context.syncs)) (with_context (without_syncs st.context) st))
-      (λ _. acts S calls owning_scope (Resumption ∷ []) x)
+      (λ _. acts S calls owning_scope (Action.Resumption ∷ []) x)
       (swallowing_round_keeps S calls called Round.AfterCompletion committed (ordered (registered st.context.syncs)) (with_context (without_syncs st.context) st))
       (λ y after kept. is_bare after.context (none_kept (without_syncs st.context) after.context none kept) kept.syncs)
 
@@ -233,15 +234,15 @@ module _ (S : Scenario) (calls : Calls) (called : CallsKeep calls) (m : MethodNo
   owning_rolls_back : (x : Option ClassNo) (st : State) → HasNone st.context → AtEnd (acts S calls owning_scope (completion Kind.Empty Ending.Rollback) x st) IsBare
   unfolding acts completion
   owning_rolls_back x st none =
-      round_then (swallowing_round S calls Round.BeforeCompletion false) (λ _. acts S calls owning_scope (RoundAfterCompletion false ∷ Resumption ∷ []) x) st
+      round_then (swallowing_round S calls Round.BeforeCompletion false) (λ _. acts S calls owning_scope (Action.RoundAfterCompletion false ∷ Action.Resumption ∷ []) x) st
       (swallowing_round_keeps S calls called Round.BeforeCompletion false) none (λ y after none. last false x after none)
 
   owning_commits : (x : Option ClassNo) (st : State) → HasNone st.context → AtEnd (acts S calls owning_scope (completion Kind.Empty Ending.Commit) x st) IsBare
   unfolding acts completion
   owning_commits x st none =
-      round_then (swallowing_round S calls Round.BeforeCompletion false) (λ _. acts S calls owning_scope (RoundAfterCommit ∷ RoundAfterCompletion true ∷ Resumption ∷ []) x) st
+      round_then (swallowing_round S calls Round.BeforeCompletion false) (λ _. acts S calls owning_scope (Action.RoundAfterCommit ∷ Action.RoundAfterCompletion true ∷ Action.Resumption ∷ []) x) st
       (swallowing_round_keeps S calls called Round.BeforeCompletion false) none
-      (λ y after none. round_then (stopping_round S calls Round.AfterCommit) (λ y. acts S calls owning_scope (RoundAfterCompletion true ∷ Resumption ∷ []) (later_or y x)) after
+      (λ y after none. round_then (stopping_round S calls Round.AfterCommit) (λ y. acts S calls owning_scope (Action.RoundAfterCompletion true ∷ Action.Resumption ∷ []) (later_or y x)) after
       (stopping_round_keeps S calls called Round.AfterCommit) none (λ y after none. last true (later_or y x) after none))
 
   completes_owning : (rolls local : Bool) (context : Context) (x : Option ClassNo) (st : State) → HasNone st.context
@@ -494,19 +495,19 @@ module _ (S : Scenario) (calls : Calls) (scope : Scope) where
   acts_outer : (actions : List Action) (x : Option ClassNo) (st : State) → AtEnd (acts S calls scope actions x st) HasOuter
   unfolding acts
   acts_outer [] x st = refl
-  acts_outer (RoundBeforeCompletion ∷ rest) x st = goes_on _ (λ _. acts S calls scope rest x) (λ y after. acts_outer rest x after)
-  acts_outer (RoundAfterCommit ∷ rest) x st = goes_on _ (λ y. acts S calls scope rest (later_or y x)) (λ y after. acts_outer rest (later_or y x) after)
-  acts_outer (RoundAfterCompletion committed ∷ rest) x st = goes_on _ (λ _. acts S calls scope rest x) (λ y after. acts_outer rest x after)
-  acts_outer (CommitStore ∷ rest) x st = asks (λ live. Want.Commit live.transaction) (λ _. acts S calls scope rest x) st (λ n after. acts_outer rest x after)
-  acts_outer (RollbackStore ∷ rest) x st = asks (λ live. Want.Rollback live.transaction) (λ _. acts S calls scope rest x) st (λ n after. acts_outer rest x after)
-  acts_outer (BackToPoint ∷ rest) x st =
+  acts_outer (Action.RoundBeforeCompletion ∷ rest) x st = goes_on _ (λ _. acts S calls scope rest x) (λ y after. acts_outer rest x after)
+  acts_outer (Action.RoundAfterCommit ∷ rest) x st = goes_on _ (λ y. acts S calls scope rest (later_or y x)) (λ y after. acts_outer rest (later_or y x) after)
+  acts_outer (Action.RoundAfterCompletion committed ∷ rest) x st = goes_on _ (λ _. acts S calls scope rest x) (λ y after. acts_outer rest x after)
+  acts_outer (Action.CommitStore ∷ rest) x st = asks (λ live. Want.Commit live.transaction) (λ _. acts S calls scope rest x) st (λ n after. acts_outer rest x after)
+  acts_outer (Action.RollbackStore ∷ rest) x st = asks (λ live. Want.Rollback live.transaction) (λ _. acts S calls scope rest x) st (λ n after. acts_outer rest x after)
+  acts_outer (Action.BackToPoint ∷ rest) x st =
       asks (λ live. Want.BackTo live.transaction) (λ _ back. acts S calls scope rest x (with_context (with_global_mark false back.context) back)) st
       (λ n after. acts_outer rest x (with_context (with_global_mark false after.context) after))
-  acts_outer (ReleasePoint ∷ rest) x st = asks (λ live. Want.Release live.transaction) (λ _. acts S calls scope rest x) st (λ n after. acts_outer rest x after)
-  acts_outer (MarkGlobally ∷ rest) x st = acts_outer rest x _
-  acts_outer (ThrowUnexpected ∷ rest) x st = acts_outer rest _ _
-  acts_outer (GiveBack ∷ rest) x st = asks (λ live. Want.Give live.connection) (λ _. acts S calls scope rest x) st (λ n after. acts_outer rest x after)
-  acts_outer (Resumption ∷ rest) x st = acts_outer rest x _
+  acts_outer (Action.ReleasePoint ∷ rest) x st = asks (λ live. Want.Release live.transaction) (λ _. acts S calls scope rest x) st (λ n after. acts_outer rest x after)
+  acts_outer (Action.MarkGlobally ∷ rest) x st = acts_outer rest x _
+  acts_outer (Action.ThrowUnexpected ∷ rest) x st = acts_outer rest _ _
+  acts_outer (Action.GiveBack ∷ rest) x st = asks (λ live. Want.Give live.connection) (λ _. acts S calls scope rest x) st (λ n after. acts_outer rest x after)
+  acts_outer (Action.Resumption ∷ rest) x st = acts_outer rest x _
 
   completes_outer : (e : Ending) (x : Option ClassNo) (st : State) → AtEnd (completes S calls scope e x st) HasOuter
   unfolding completes

@@ -16,6 +16,7 @@ use Rattle.stx_scenario.specs.declared.scenario.Propagation.{Propagation}
 use Rattle.stx_scenario.specs.declared.scenario.Stmt.{Stmt}
 use Rattle.stx_scenario.specs.declared.scenario.SyncDecl.{SyncDecl}
 use Rattle.stx_scenario.specs.declared.scenario.TxAttr.{TxAttr}
+use Rattle.stx_base.specs.declared.manager.Action.{Action}
 use Rattle.stx_base.specs.declared.call.Want.{Want}
 use Rattle.stx_base.specs.declared.history.StoreNote.{StoreNote}
 use Rattle.stx_base.specs.declared.line.Line.{Line}
@@ -32,7 +33,7 @@ use Rattle.stx_base.specs.Weight.{body_of, rank}
 use Rattle.stx_base.proofs.WeightLaws.{at_get}
 use Rattle.stx_model.specs.Brackets.{same_label}
 use Rattle.stx_model.specs.Contexts.{Context, Live, Registration, bare, is_active, is_live, ordered, registered, with_global_mark, marked_globally, without_syncs}
-use Rattle.stx_model.specs.Ending.{Action, RoundBeforeCompletion, RoundAfterCommit, RoundAfterCompletion, CommitStore, RollbackStore, BackToPoint, ReleasePoint, MarkGlobally, ThrowUnexpected, GiveBack, Resumption, ending, has_before_commit, completion, completion_after}
+use Rattle.stx_model.specs.Ending.{ending, has_before_commit, completion, completion_after}
 use Rattle.stx_model.specs.Listeners.{Deed, Register, RunNow, Skip, deeds, runs_in}
 use Rattle.stx_model.specs.Meanings.{State, Result, Over, Stops, Breaks, at_first, Meaning, finally, say, with_context, with_local, ask}
 use Rattle.stx_model.specs.Opening.{opening, opening_within, opening_without}
@@ -328,57 +329,57 @@ module _ (W : World) where
     -- what the actions of a scope's completion do to the ledger, from inside its call to after it
     abbrev Acts : Scope → Ledger → Ledger → List Action → Type 0
     Acts scope M L [] = (st : State) → At W L st → At W (inside W scope.method M) st
-    Acts scope M L (RoundBeforeCompletion ∷ rest) = Acts scope M L rest
-    Acts scope M L (RoundAfterCommit ∷ rest) = Acts scope M L rest
-    Acts scope M L (RoundAfterCompletion committed ∷ rest) = Acts scope M (record L { active = closed scope.owns L.active }) rest
-    Acts scope M L (CommitStore ∷ rest) = (b : Bound) × (L.tx ≡ Some b) × (ts : List ℕ) × MayEnd L ts b × Acts scope M (record L { transactions = ts }) rest
-    Acts scope M L (RollbackStore ∷ rest) = (b : Bound) × (L.tx ≡ Some b) × (ts : List ℕ) × MayEnd L ts b × Acts scope M (record L { transactions = ts }) rest
-    Acts scope M L (BackToPoint ∷ rest) = (b : Bound) × (L.tx ≡ Some b) × MayGoBack L b × Acts scope M (noted (StoreNote.BackTo b.transaction) L) rest
-    Acts scope M L (ReleasePoint ∷ rest) = (b : Bound) × (L.tx ≡ Some b) × MayRelease L b × Acts scope M (noted (StoreNote.Release b.transaction) L) rest
-    Acts scope M L (MarkGlobally ∷ rest) = Acts scope M L rest
-    Acts scope M L (ThrowUnexpected ∷ rest) = Acts scope M L rest
-    Acts scope M L (GiveBack ∷ rest) = (b : Bound) × (L.tx ≡ Some b) × (cs : List ℕ) × (L.connections ≡ b.connection ∷ cs) × Acts scope M (record L { connections = cs }) rest
-    Acts scope M L (Resumption ∷ rest) = ((st : State) → At W L st → At W (inside W scope.method M) (resumed scope.older st)) × Acts scope M (inside W scope.method M) rest
+    Acts scope M L (Action.RoundBeforeCompletion ∷ rest) = Acts scope M L rest
+    Acts scope M L (Action.RoundAfterCommit ∷ rest) = Acts scope M L rest
+    Acts scope M L (Action.RoundAfterCompletion committed ∷ rest) = Acts scope M (record L { active = closed scope.owns L.active }) rest
+    Acts scope M L (Action.CommitStore ∷ rest) = (b : Bound) × (L.tx ≡ Some b) × (ts : List ℕ) × MayEnd L ts b × Acts scope M (record L { transactions = ts }) rest
+    Acts scope M L (Action.RollbackStore ∷ rest) = (b : Bound) × (L.tx ≡ Some b) × (ts : List ℕ) × MayEnd L ts b × Acts scope M (record L { transactions = ts }) rest
+    Acts scope M L (Action.BackToPoint ∷ rest) = (b : Bound) × (L.tx ≡ Some b) × MayGoBack L b × Acts scope M (noted (StoreNote.BackTo b.transaction) L) rest
+    Acts scope M L (Action.ReleasePoint ∷ rest) = (b : Bound) × (L.tx ≡ Some b) × MayRelease L b × Acts scope M (noted (StoreNote.Release b.transaction) L) rest
+    Acts scope M L (Action.MarkGlobally ∷ rest) = Acts scope M L rest
+    Acts scope M L (Action.ThrowUnexpected ∷ rest) = Acts scope M L rest
+    Acts scope M L (Action.GiveBack ∷ rest) = (b : Bound) × (L.tx ≡ Some b) × (cs : List ℕ) × (L.connections ≡ b.connection ∷ cs) × Acts scope M (record L { connections = cs }) rest
+    Acts scope M L (Action.Resumption ∷ rest) = ((st : State) → At W L st → At W (inside W scope.method M) (resumed scope.older st)) × Acts scope M (inside W scope.method M) rest
 
     acts_go : (scope : Scope) (M : Ledger) (actions : List Action) (x : Option ClassNo) (L : Ledger) (st : State) → Acts scope M L actions → At W L st → Ends W M (acts S calls scope actions x st)
     unfolding acts
     acts_go scope M [] x L st done h = left W scope.method x M (with_local scope.outer st) (done st h)
-    acts_go scope M (RoundBeforeCompletion ∷ rest) x L st may h =
+    acts_go scope M (Action.RoundBeforeCompletion ∷ rest) x L st may h =
         let round = swallowing_round S calls Round.BeforeCompletion false in
         finally_ends W L M (round_of scope.owns round st) (λ _. acts S calls scope rest x)
         (round_of_go L scope.owns round (swallowing_go Round.BeforeCompletion false (λ _. L) (λ rs sound. inr refl)
         (λ r later context st h. called_line L Round.BeforeCompletion false r.label context st refl h)) st h)
         (λ _ after h. acts_go scope M rest x L after may h)
-    acts_go scope M (RoundAfterCommit ∷ rest) x L st may h =
+    acts_go scope M (Action.RoundAfterCommit ∷ rest) x L st may h =
         let round = stopping_round S calls Round.AfterCommit in
         finally_ends W L M (round_of scope.owns round st) (λ y. acts S calls scope rest (later_or y x))
         (round_of_go L scope.owns round (stopping_go L Round.AfterCommit refl (λ sound. inr refl)) st h)
         (λ y after h. acts_go scope M rest (later_or y x) L after may h)
-    acts_go scope M (RoundAfterCompletion committed ∷ rest) x L st may h =
+    acts_go scope M (Action.RoundAfterCompletion committed ∷ rest) x L st may h =
         finally_ends W (record L { active = closed scope.owns L.active }) M (last_round S calls scope.owns committed st) (λ _. acts S calls scope rest x)
         (last_round_go L scope.owns committed st h)
         (λ _ after h. acts_go scope M rest x (record L { active = closed scope.owns L.active }) after may h)
-    acts_go scope M (CommitStore ∷ rest) x L st (b, is, ts, ends, may) h =
+    acts_go scope M (Action.CommitStore ∷ rest) x L st (b, is, ts, ends, may) h =
         live_in_ends W (MayEnd L ts) M b st.context.tx _ st (h.tx ∙ is) ends
         (λ live ends. ask_commit W M L st h live.transaction ts _ ends.0 ends.1 (λ after h. acts_go scope M rest x (record L { transactions = ts }) after may h))
-    acts_go scope M (RollbackStore ∷ rest) x L st (b, is, ts, ends, may) h =
+    acts_go scope M (Action.RollbackStore ∷ rest) x L st (b, is, ts, ends, may) h =
         live_in_ends W (MayEnd L ts) M b st.context.tx _ st (h.tx ∙ is) ends
         (λ live ends. ask_rollback W M L st h live.transaction ts _ ends.0 ends.1 (λ after h. acts_go scope M rest x (record L { transactions = ts }) after may h))
-    acts_go scope M (BackToPoint ∷ rest) x L st (b, is, allowed, may) h =
+    acts_go scope M (Action.BackToPoint ∷ rest) x L st (b, is, allowed, may) h =
         live_in_ends W (λ b. MayGoBack L b × Acts scope M (noted (StoreNote.BackTo b.transaction) L) rest) M b st.context.tx _ st (h.tx ∙ is) (allowed, may)
         (λ live at. ask_back W M L st h live.transaction _ at.0 (λ after h. acts_go scope M rest x (noted (StoreNote.BackTo live.transaction) L)
         (with_context (with_global_mark false after.context) after) at.1 (remarked false (noted (StoreNote.BackTo live.transaction) L) after h)))
-    acts_go scope M (ReleasePoint ∷ rest) x L st (b, is, allowed, may) h =
+    acts_go scope M (Action.ReleasePoint ∷ rest) x L st (b, is, allowed, may) h =
         live_in_ends W (λ b. MayRelease L b × Acts scope M (noted (StoreNote.Release b.transaction) L) rest) M b st.context.tx _ st (h.tx ∙ is) (allowed, may)
         (λ live at. ask_release W M L st h live.transaction _ at.0 (λ after h. acts_go scope M rest x (noted (StoreNote.Release live.transaction) L) after at.1 h))
-    acts_go scope M (MarkGlobally ∷ rest) x L st may h =
+    acts_go scope M (Action.MarkGlobally ∷ rest) x L st may h =
         acts_go scope M rest x L _ may (plain W Line.MarkGlobal L (with_global_mark true st.context) (with_context (with_global_mark true st.context) st) (λ u. refl) refl (remarked true L st h))
-    acts_go scope M (ThrowUnexpected ∷ rest) x L st may h =
+    acts_go scope M (Action.ThrowUnexpected ∷ rest) x L st may h =
         acts_go scope M rest (Some UNEXPECTED_ROLLBACK_EXCEPTION) L _ may (throws_go W L UNEXPECTED_ROLLBACK_EXCEPTION st h)
-    acts_go scope M (GiveBack ∷ rest) x L st (b, is, cs, newest, may) h =
+    acts_go scope M (Action.GiveBack ∷ rest) x L st (b, is, cs, newest, may) h =
         live_in_ends W (λ b. L.connections ≡ b.connection ∷ cs) M b st.context.tx _ st (h.tx ∙ is) newest
         (λ live at. ask_give W M L st h live.connection cs _ at (λ after h. acts_go scope M rest x (record L { connections = cs }) after may h))
-    acts_go scope M (Resumption ∷ rest) x L st (back, may) h = acts_go scope M rest x (inside W scope.method M) (resumed scope.older st) may (back st h)
+    acts_go scope M (Action.Resumption ∷ rest) x L st (back, may) h = acts_go scope M rest x (inside W scope.method M) (resumed scope.older st) may (back st h)
 
     -- ---- scopes
 
@@ -457,7 +458,7 @@ module _ (W : World) where
           undone : (st : State) → At W (noted (StoreNote.Release t) (noted (StoreNote.BackTo t) L)) st → At W (inside W m M) st
           undone st = same_points W (noted (StoreNote.Release t) (noted (StoreNote.BackTo t) L)) M.points st.context st (λ u. gone_back t u (M.points u))
 
-          rolls_back : (rest : List Action) → Acts scope M (noted (StoreNote.Release t) (noted (StoreNote.BackTo t) L)) rest → Acts scope M L (BackToPoint ∷ ReleasePoint ∷ rest)
+          rolls_back : (rest : List Action) → Acts scope M (noted (StoreNote.Release t) (noted (StoreNote.BackTo t) L)) rest → Acts scope M L (Action.BackToPoint ∷ Action.ReleasePoint ∷ rest)
           rolls_back rest then =
               (b, sym is, λ sound. (lives sound, rw (eq-eqb t t refl) refl), (b, sym is, λ sound. (lives sound, rw (eq-eqb t t refl) refl), then))
 
@@ -469,7 +470,7 @@ module _ (W : World) where
             λ st. same_points W (noted (StoreNote.Release t) L) M.points st.context st (λ u. released t u (M.points u)),
           )
           ready Ending.Rollback may = rolls_back [] undone
-          ready Ending.Unexpected may = rolls_back (ThrowUnexpected ∷ []) undone
+          ready Ending.Unexpected may = rolls_back (Action.ThrowUnexpected ∷ []) undone
 
       -- a fresh scope, on connection c in transaction t
       fresh_go : (M : Ledger) (older : Context) (owns : Bool) (c t : ℕ) (st : State) → bound older.tx ≡ M.tx → is_active older ≡ M.active → (Sound W → M.points t ≡ [])

@@ -13,6 +13,7 @@ use Rattle.stx_scenario.specs.declared.scenario.Scenario.{Scenario}
 use Rattle.stx_scenario.specs.declared.scenario.Listener.{Listener}
 use Rattle.stx_scenario.specs.declared.scenario.Stmt.{Stmt}
 use Rattle.stx_scenario.specs.declared.scenario.TxAttr.{TxAttr}
+use Rattle.stx_base.specs.declared.manager.Action.{Action}
 use Rattle.stx_base.specs.declared.call.Want.{Want}
 use Rattle.stx_base.specs.declared.history.Access.{Access}
 use Rattle.stx_base.specs.declared.history.Answer.{Answer}
@@ -29,7 +30,7 @@ use Rattle.stx_base.specs.Attributes.{attribute}
 use Rattle.stx_base.specs.Notes.{is_answer, note_line}
 use Rattle.stx_base.specs.Weight.{body_of, rank}
 use Rattle.stx_model.specs.Contexts.{Context, Live, Registration, bare, is_active, is_live, registered, ordered, ordered_labels, with_global_mark, without_syncs}
-use Rattle.stx_model.specs.Ending.{Action, RoundBeforeCompletion, RoundAfterCommit, RoundAfterCompletion, CommitStore, RollbackStore, BackToPoint, ReleasePoint, MarkGlobally, ThrowUnexpected, GiveBack, Resumption, completion, completion_after, has_before_commit, ending}
+use Rattle.stx_model.specs.Ending.{completion, completion_after, has_before_commit, ending}
 use Rattle.stx_model.specs.Listeners.{Deed, Register, RunNow, Skip, deeds, runs_in}
 use Rattle.stx_model.specs.Meanings.{State, Result, Over, Stops, Breaks, Meaning, at_first, state_of, and_then, finally, say, with_context, with_local, unread, hear, answered, ask, on_take, on_begin, on_access}
 use Rattle.stx_model.specs.Opening.{opening}
@@ -424,7 +425,7 @@ module _ (R : ℕ) where
   -- a resumption has its room
   abbrev room : List Action → ℕ
   room [] = 0
-  room (Resumption ∷ rest) = R + room rest
+  room (Action.Resumption ∷ rest) = R + room rest
   room (_ ∷ rest) = room rest
 
   room_within : (kind : Kind) (e : Ending) → room (completion kind e) ≤ R
@@ -463,40 +464,40 @@ module _ (R : ℕ) where
       unfolding acts
       acts_pace [] x st counted older =
           let said = says (Line.Leave scope.method x) st refl counted in record { grows = said.grows; counted = said.counted; paid = said.paid }
-      acts_pace (RoundBeforeCompletion ∷ rest) x st counted older =
+      acts_pace (Action.RoundBeforeCompletion ∷ rest) x st counted older =
           finally_follows (room rest) st (round_of scope.owns (swallowing_round S calls Round.BeforeCompletion false) st) (λ _. acts S calls scope rest x)
           (round_paces S calls called scope.owns (swallowing_round S calls Round.BeforeCompletion false) (swallowing_paces S calls called Round.BeforeCompletion false) st counted)
           (λ y middle still grows. acts_pace rest x middle still (omega (arith, older, grows)))
-      acts_pace (RoundAfterCommit ∷ rest) x st counted older =
+      acts_pace (Action.RoundAfterCommit ∷ rest) x st counted older =
           finally_follows (room rest) st (round_of scope.owns (stopping_round S calls Round.AfterCommit) st) (λ y. acts S calls scope rest (later_or y x))
           (round_paces S calls called scope.owns (stopping_round S calls Round.AfterCommit) (stopping_paces S calls called Round.AfterCommit) st counted)
           (λ y middle still grows. acts_pace rest (later_or y x) middle still (omega (arith, older, grows)))
-      acts_pace (RoundAfterCompletion committed ∷ rest) x st counted older =
+      acts_pace (Action.RoundAfterCompletion committed ∷ rest) x st counted older =
           finally_follows (room rest) st (last_round S calls scope.owns committed st) (λ _. acts S calls scope rest x) (last_paces S calls called scope.owns committed st counted)
           (λ y middle still grows. acts_pace rest x middle still (omega (arith, older, grows)))
-      acts_pace (CommitStore ∷ rest) x st counted older = asks (room rest) (λ live. Want.Commit live.transaction) (acts S calls scope rest x) st counted older (acts_pace rest x)
-      acts_pace (RollbackStore ∷ rest) x st counted older = asks (room rest) (λ live. Want.Rollback live.transaction) (acts S calls scope rest x) st counted older (acts_pace rest x)
-      acts_pace (BackToPoint ∷ rest) x st counted older =
+      acts_pace (Action.CommitStore ∷ rest) x st counted older = asks (room rest) (λ live. Want.Commit live.transaction) (acts S calls scope rest x) st counted older (acts_pace rest x)
+      acts_pace (Action.RollbackStore ∷ rest) x st counted older = asks (room rest) (λ live. Want.Rollback live.transaction) (acts S calls scope rest x) st counted older (acts_pace rest x)
+      acts_pace (Action.BackToPoint ∷ rest) x st counted older =
           asks (room rest) (λ live. Want.BackTo live.transaction) (λ back. acts S calls scope rest x (with_context (with_global_mark false back.context) back)) st counted older
           (λ back still held_still.
           let cleared = in_context (with_global_mark false back.context) back still in
           follow 0 (room rest) (room rest) back (with_context (with_global_mark false back.context) back) (state_of (acts S calls scope rest x (with_context (with_global_mark false back.context) back))) (omega arith) cleared
           (acts_pace rest x (with_context (with_global_mark false back.context) back) cleared.counted held_still))
-      acts_pace (ReleasePoint ∷ rest) x st counted older = asks (room rest) (λ live. Want.Release live.transaction) (acts S calls scope rest x) st counted older (acts_pace rest x)
-      acts_pace (MarkGlobally ∷ rest) x st counted older =
+      acts_pace (Action.ReleasePoint ∷ rest) x st counted older = asks (room rest) (λ live. Want.Release live.transaction) (acts S calls scope rest x) st counted older (acts_pace rest x)
+      acts_pace (Action.MarkGlobally ∷ rest) x st counted older =
           let marked = in_context (with_global_mark true st.context) st counted in
           let said = says Line.MarkGlobal (with_context (with_global_mark true st.context) st) refl marked.counted in
           let both = follow 0 0 0 st (with_context (with_global_mark true st.context) st) (say Line.MarkGlobal (with_context (with_global_mark true st.context) st)) (omega arith) marked said in
           follow 0 (room rest) (room rest) st (say Line.MarkGlobal (with_context (with_global_mark true st.context) st))
           (state_of (acts S calls scope rest x (say Line.MarkGlobal (with_context (with_global_mark true st.context) st)))) (omega arith) both
           (acts_pace rest x (say Line.MarkGlobal (with_context (with_global_mark true st.context) st)) said.counted (omega (arith, older, both.grows)))
-      acts_pace (ThrowUnexpected ∷ rest) x st counted older =
+      acts_pace (Action.ThrowUnexpected ∷ rest) x st counted older =
           let said = says (Line.Throw UNEXPECTED_ROLLBACK_EXCEPTION) st refl counted in
           follow 0 (room rest) (room rest) st (say (Line.Throw UNEXPECTED_ROLLBACK_EXCEPTION) st)
           (state_of (acts S calls scope rest (Some UNEXPECTED_ROLLBACK_EXCEPTION) (say (Line.Throw UNEXPECTED_ROLLBACK_EXCEPTION) st))) (omega arith) said
           (acts_pace rest (Some UNEXPECTED_ROLLBACK_EXCEPTION) (say (Line.Throw UNEXPECTED_ROLLBACK_EXCEPTION) st) said.counted (omega (arith, older, said.grows)))
-      acts_pace (GiveBack ∷ rest) x st counted older = asks (room rest) (λ live. Want.Give live.connection) (acts S calls scope rest x) st counted older (acts_pace rest x)
-      acts_pace (Resumption ∷ rest) x st counted older =
+      acts_pace (Action.GiveBack ∷ rest) x st counted older = asks (room rest) (λ live. Want.Give live.connection) (acts S calls scope rest x) st counted older (acts_pace rest x)
+      acts_pace (Action.Resumption ∷ rest) x st counted older =
           let back = resumed_follows scope.older st counted older in
           follow R (room rest) (R + room rest) st (resumed scope.older st) (state_of (acts S calls scope rest x (resumed scope.older st))) (omega arith) back
           (acts_pace rest x (resumed scope.older st) back.counted (omega (arith, older, back.grows)))

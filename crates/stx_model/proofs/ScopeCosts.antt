@@ -7,6 +7,7 @@ use Rattle.stx_scenario.specs.declared.numbers.MethodNo.{MethodNo}
 use Rattle.stx_scenario.specs.declared.classes.TheConstants.{CANNOT_CREATE_TRANSACTION_EXCEPTION, UNEXPECTED_ROLLBACK_EXCEPTION}
 use Rattle.stx_scenario.specs.declared.scenario.Scenario.{Scenario}
 use Rattle.stx_scenario.specs.declared.scenario.TxAttr.{TxAttr}
+use Rattle.stx_base.specs.declared.manager.Action.{Action}
 use Rattle.stx_base.specs.declared.call.Want.{Want}
 use Rattle.stx_base.specs.declared.cost.Cost.{Cost}
 use Rattle.stx_base.specs.declared.history.Note.{Note}
@@ -18,7 +19,7 @@ use Rattle.stx_base.specs.declared.manager.Ending.{Ending}
 use Rattle.stx_base.specs.declared.manager.Round.{Round}
 use Rattle.stx_base.specs.Notes.{is_answer}
 use Rattle.stx_model.specs.Contexts.{Context, Live, Registration, bare, registered, ordered, ordered_labels, with_global_mark, without_syncs}
-use Rattle.stx_model.specs.Ending.{Action, RoundBeforeCompletion, RoundAfterCommit, RoundAfterCompletion, CommitStore, RollbackStore, BackToPoint, ReleasePoint, MarkGlobally, ThrowUnexpected, GiveBack, Resumption, completion, completion_after, has_before_commit, ending}
+use Rattle.stx_model.specs.Ending.{completion, completion_after, has_before_commit, ending}
 use Rattle.stx_model.specs.Meanings.{State, Result, Over, Stops, Breaks, Meaning, finally, say, with_context, with_local, unread, hear, answered, ask, on_take, on_begin}
 use Rattle.stx_model.specs.Opening.{opening}
 use Rattle.stx_base.specs.Weight.{one}
@@ -98,7 +99,7 @@ module _ (M : Measure) (S : Scenario) (calls : Calls) (of : MethodNo → Cost) (
   unfolding acts
   ended p x st = omega (arith, none_owed (registered st.context.syncs), M.said (Line.Leave scope.method x) (with_local scope.outer st), M.marked scope.outer st)
 
-  resumes : (p : Owed) → Acts p (2 * M.line) (Resumption ∷ [])
+  resumes : (p : Owed) → Acts p (2 * M.line) (Action.Resumption ∷ [])
   unfolding acts
   resumes p x st =
       spends_within M nobody (M.spent (resumed scope.older st)) (M.spent st) (owes nobody (resumed scope.older st).context + M.line) (owes p st.context + 2 * M.line) (acts S calls scope [] x (resumed scope.older st))
@@ -137,7 +138,7 @@ module _ (M : Measure) (S : Scenario) (calls : Calls) (of : MethodNo → Cost) (
       spends_within M nobody (M.spent st) (M.spent st) (owes q st.context + n) (owes p st.context + n) (next None st)
       (omega (arith, sum_more q p (registered st.context.syncs) less)) (then None st)
 
-  before_completion : (n : ℕ) (rest : List Action) → Acts (before_after_commit M S of) n rest → Acts (before_before_completion M S of) n (RoundBeforeCompletion ∷ rest)
+  before_completion : (n : ℕ) (rest : List Action) → Acts (before_after_commit M S of) n rest → Acts (before_before_completion M S of) n (Action.RoundBeforeCompletion ∷ rest)
   unfolding acts
   before_completion n rest spends x st =
       rounds_then (before_before_completion M S of) (before_after_commit M S of) n scope.owns (swallowing_round S calls Round.BeforeCompletion false) (λ _. acts S calls scope rest x) (λ r. omega arith)
@@ -145,7 +146,7 @@ module _ (M : Measure) (S : Scenario) (calls : Calls) (of : MethodNo → Cost) (
       (swallowing_costs M S calls of called (before_after_commit M S of) (is_owed_after_commit M S of) Round.BeforeCompletion false) (λ r. omega arith))
       (λ y after. spends x after) st
 
-  after_commit : (n : ℕ) (rest : List Action) → Acts (before_last M S of) n rest → Acts (before_after_commit M S of) n (RoundAfterCommit ∷ rest)
+  after_commit : (n : ℕ) (rest : List Action) → Acts (before_last M S of) n rest → Acts (before_after_commit M S of) n (Action.RoundAfterCommit ∷ rest)
   unfolding acts
   after_commit n rest spends x st =
       rounds_then (before_after_commit M S of) (before_last M S of) n scope.owns (stopping_round S calls Round.AfterCommit) (λ y. acts S calls scope rest (later_or y x)) (λ r. omega arith)
@@ -154,7 +155,7 @@ module _ (M : Measure) (S : Scenario) (calls : Calls) (of : MethodNo → Cost) (
       (λ y after. spends (later_or y x) after) st
 
   -- the last round takes the registrations out, and nothing is owed any more
-  after_completion : (committed : Bool) (n : ℕ) (rest : List Action) → Acts nobody n rest → Acts (before_last M S of) n (RoundAfterCompletion committed ∷ rest)
+  after_completion : (committed : Bool) (n : ℕ) (rest : List Action) → Acts nobody n rest → Acts (before_last M S of) n (Action.RoundAfterCompletion committed ∷ rest)
   unfolding acts
   after_completion committed n rest spends x st = by scope.owns
     where
@@ -181,19 +182,19 @@ module _ (M : Measure) (S : Scenario) (calls : Calls) (of : MethodNo → Cost) (
           spends_within M nobody (M.spent st) (M.spent st) (owes nobody st.context + n) (owes (before_last M S of) st.context + n) (acts S calls scope rest x st)
           (omega (arith, none_owed (registered st.context.syncs))) (spends x st)
 
-  commits : (p : Owed) (n : ℕ) (rest : List Action) → Acts p n rest → Acts p (M.note + n) (CommitStore ∷ rest)
+  commits : (p : Owed) (n : ℕ) (rest : List Action) → Acts p n rest → Acts p (M.note + n) (Action.CommitStore ∷ rest)
   unfolding acts
   commits p n rest spends = asks p n (λ live. Want.Commit live.transaction) rest spends
 
-  rolls_back : (p : Owed) (n : ℕ) (rest : List Action) → Acts p n rest → Acts p (M.note + n) (RollbackStore ∷ rest)
+  rolls_back : (p : Owed) (n : ℕ) (rest : List Action) → Acts p n rest → Acts p (M.note + n) (Action.RollbackStore ∷ rest)
   unfolding acts
   rolls_back p n rest spends = asks p n (λ live. Want.Rollback live.transaction) rest spends
 
-  gives_back : (p : Owed) (n : ℕ) (rest : List Action) → Acts p n rest → Acts p (M.note + n) (GiveBack ∷ rest)
+  gives_back : (p : Owed) (n : ℕ) (rest : List Action) → Acts p n rest → Acts p (M.note + n) (Action.GiveBack ∷ rest)
   unfolding acts
   gives_back p n rest spends = asks p n (λ live. Want.Give live.connection) rest spends
 
-  unexpected : (p : Owed) (n : ℕ) (rest : List Action) → Acts p n rest → Acts p (M.line + n) (ThrowUnexpected ∷ rest)
+  unexpected : (p : Owed) (n : ℕ) (rest : List Action) → Acts p n rest → Acts p (M.line + n) (Action.ThrowUnexpected ∷ rest)
   unfolding acts
   unexpected p n rest spends x st =
       spends_within M nobody (M.spent (say (Line.Throw UNEXPECTED_ROLLBACK_EXCEPTION) st)) (M.spent st) (owes p st.context + n) (owes p st.context + (M.line + n))
@@ -310,7 +311,7 @@ module _ (M : Measure) (S : Scenario) (calls : Calls) (o : Owed) (scope : Scope)
   unfolding acts
   left x st = omega (arith, M.said (Line.Leave scope.method x) (with_local scope.outer st), M.marked scope.outer st)
 
-  marks : (n : ℕ) (rest : List Action) → Joins n rest → Joins (M.line + n) (MarkGlobally ∷ rest)
+  marks : (n : ℕ) (rest : List Action) → Joins n rest → Joins (M.line + n) (Action.MarkGlobally ∷ rest)
   unfolding acts
   marks n rest spends x st =
       spends_within M o (M.spent (say Line.MarkGlobal (with_context (with_global_mark true st.context) st))) (M.spent st) (owes o st.context + n) (owes o st.context + (M.line + n))
@@ -318,7 +319,7 @@ module _ (M : Measure) (S : Scenario) (calls : Calls) (o : Owed) (scope : Scope)
       (omega (arith, M.said Line.MarkGlobal (with_context (with_global_mark true st.context) st), M.in_context (with_global_mark true st.context) st))
       (spends x (say Line.MarkGlobal (with_context (with_global_mark true st.context) st)))
 
-  throws_unexpected : (n : ℕ) (rest : List Action) → Joins n rest → Joins (M.line + n) (ThrowUnexpected ∷ rest)
+  throws_unexpected : (n : ℕ) (rest : List Action) → Joins n rest → Joins (M.line + n) (Action.ThrowUnexpected ∷ rest)
   unfolding acts
   throws_unexpected n rest spends x st =
       says M o (Line.Throw UNEXPECTED_ROLLBACK_EXCEPTION) n (M.line + n) (acts S calls scope rest (Some UNEXPECTED_ROLLBACK_EXCEPTION)) st (omega arith) (spends (Some UNEXPECTED_ROLLBACK_EXCEPTION))
@@ -327,13 +328,13 @@ module _ (M : Measure) (S : Scenario) (calls : Calls) (o : Owed) (scope : Scope)
   live_costs n (Some live) next costs st = costs live st
   live_costs n None next costs st = broken M o n st
 
-  releases : (n : ℕ) (rest : List Action) → Joins n rest → Joins (M.note + n) (ReleasePoint ∷ rest)
+  releases : (n : ℕ) (rest : List Action) → Joins n rest → Joins (M.note + n) (Action.ReleasePoint ∷ rest)
   unfolding acts
   releases n rest spends x st =
       live_costs (M.note + n) st.context.tx (λ live. ask (Want.Release live.transaction) (λ _. acts S calls scope rest x))
       (λ live. ask_costs M o (Want.Release live.transaction) (λ _. acts S calls scope rest x) n (λ _. spends x)) st
 
-  goes_back : (n : ℕ) (rest : List Action) → Joins n rest → Joins (M.note + n) (BackToPoint ∷ rest)
+  goes_back : (n : ℕ) (rest : List Action) → Joins n rest → Joins (M.note + n) (Action.BackToPoint ∷ rest)
   unfolding acts
   goes_back n rest spends x st =
       live_costs (M.note + n) st.context.tx (λ live. ask (Want.BackTo live.transaction) (λ _ back. acts S calls scope rest x (with_context (with_global_mark false back.context) back)))

@@ -11,6 +11,7 @@ use Rattle.stx_scenario.specs.declared.scenario.Listener.{Listener}
 use Rattle.stx_scenario.specs.declared.scenario.Rule.{Rule}
 use Rattle.stx_scenario.specs.declared.scenario.Stmt.{Stmt}
 use Rattle.stx_scenario.specs.declared.scenario.TxAttr.{TxAttr}
+use Rattle.stx_base.specs.declared.manager.Action.{Action}
 use Rattle.stx_base.specs.declared.call.Want.{Want}
 use Rattle.stx_base.specs.declared.history.Access.{Access}
 use Rattle.stx_base.specs.declared.history.Answer.{Answer}
@@ -24,7 +25,7 @@ use Rattle.stx_base.specs.Attributes.{attribute}
 use Rattle.stx_base.specs.Weight.{body_of, rank}
 use Rattle.stx_model.specs.Contexts.{Context, Live, Registration, bare, is_active, is_live, ordered, ordered_labels, registered, with_global_mark, with_registration, without_syncs}
 use Rattle.stx_model.specs.Opening.{opening}
-use Rattle.stx_model.specs.Ending.{Action, RoundBeforeCompletion, RoundAfterCommit, RoundAfterCompletion, CommitStore, RollbackStore, BackToPoint, ReleasePoint, MarkGlobally, ThrowUnexpected, GiveBack, Resumption, ending, has_before_commit, completion, completion_after}
+use Rattle.stx_model.specs.Ending.{ending, has_before_commit, completion, completion_after}
 use Rattle.stx_model.specs.Listeners.{Deed, Register, RunNow, Skip, deeds, runs_in}
 use Rattle.stx_base.specs.declared.history.Note.{Note}
 use Rattle.stx_model.specs.Meanings.{State, Over, Stops, Meaning, finally, say, with_context, with_local, ask, on_take, on_begin, on_access}
@@ -255,40 +256,40 @@ module _ (S : Scenario) (calls : Calls) (calls_steady : AreSteady calls) where
   pub acts_steady : (scope : Scope) (actions : List Action) (x : Option ClassNo) → IsSteady (acts S calls scope actions x)
   unfolding acts
   acts_steady scope [] x st = leaves_steady scope.method x (with_local scope.outer st)
-  acts_steady scope (RoundBeforeCompletion ∷ rest) x st =
+  acts_steady scope (Action.RoundBeforeCompletion ∷ rest) x st =
       let round = swallowing_round S calls Round.BeforeCompletion false in
       finally_steady (round_of scope.owns round) (λ _. acts S calls scope rest x)
       (round_of_steady scope.owns round (swallowing_steady Round.BeforeCompletion false)) (λ _. acts_steady scope rest x) st
-  acts_steady scope (RoundAfterCommit ∷ rest) x st =
+  acts_steady scope (Action.RoundAfterCommit ∷ rest) x st =
       let round = stopping_round S calls Round.AfterCommit in
       finally_steady (round_of scope.owns round) (λ y. acts S calls scope rest (later_or y x))
       (round_of_steady scope.owns round (stopping_steady Round.AfterCommit)) (λ y. acts_steady scope rest (later_or y x)) st
-  acts_steady scope (RoundAfterCompletion committed ∷ rest) x st =
+  acts_steady scope (Action.RoundAfterCompletion committed ∷ rest) x st =
       finally_steady (last_round S calls scope.owns committed) (λ _. acts S calls scope rest x)
       (last_round_steady scope.owns committed) (λ _. acts_steady scope rest x) st
-  acts_steady scope (CommitStore ∷ rest) x st =
+  acts_steady scope (Action.CommitStore ∷ rest) x st =
       live_in_steady st.context.tx (λ live. ask (Want.Commit live.transaction) (λ _. acts S calls scope rest x))
       (λ live. ask_steady (Want.Commit live.transaction) (λ _. acts S calls scope rest x) (λ _. acts_steady scope rest x)) st
-  acts_steady scope (RollbackStore ∷ rest) x st =
+  acts_steady scope (Action.RollbackStore ∷ rest) x st =
       live_in_steady st.context.tx (λ live. ask (Want.Rollback live.transaction) (λ _. acts S calls scope rest x))
       (λ live. ask_steady (Want.Rollback live.transaction) (λ _. acts S calls scope rest x) (λ _. acts_steady scope rest x)) st
-  acts_steady scope (BackToPoint ∷ rest) x st =
+  acts_steady scope (Action.BackToPoint ∷ rest) x st =
       let next : Note → Meaning = λ _ back. acts S calls scope rest x (with_context (with_global_mark false back.context) back) in
       live_in_steady st.context.tx (λ live. ask (Want.BackTo live.transaction) next)
       (λ live. ask_steady (Want.BackTo live.transaction) next
       (λ _ back. acts_steady scope rest x (with_context (with_global_mark false back.context) back))) st
-  acts_steady scope (ReleasePoint ∷ rest) x st =
+  acts_steady scope (Action.ReleasePoint ∷ rest) x st =
       live_in_steady st.context.tx (λ live. ask (Want.Release live.transaction) (λ _. acts S calls scope rest x))
       (λ live. ask_steady (Want.Release live.transaction) (λ _. acts S calls scope rest x) (λ _. acts_steady scope rest x)) st
-  acts_steady scope (MarkGlobally ∷ rest) x st =
+  acts_steady scope (Action.MarkGlobally ∷ rest) x st =
       say_steady Line.MarkGlobal (acts S calls scope rest x) (acts_steady scope rest x) (with_context (with_global_mark true st.context) st)
-  acts_steady scope (ThrowUnexpected ∷ rest) x st =
+  acts_steady scope (Action.ThrowUnexpected ∷ rest) x st =
       say_steady (Line.Throw UNEXPECTED_ROLLBACK_EXCEPTION) (acts S calls scope rest (Some UNEXPECTED_ROLLBACK_EXCEPTION))
       (acts_steady scope rest (Some UNEXPECTED_ROLLBACK_EXCEPTION)) st
-  acts_steady scope (GiveBack ∷ rest) x st =
+  acts_steady scope (Action.GiveBack ∷ rest) x st =
       live_in_steady st.context.tx (λ live. ask (Want.Give live.connection) (λ _. acts S calls scope rest x))
       (λ live. ask_steady (Want.Give live.connection) (λ _. acts S calls scope rest x) (λ _. acts_steady scope rest x)) st
-  acts_steady scope (Resumption ∷ rest) x st =
+  acts_steady scope (Action.Resumption ∷ rest) x st =
       after_change (resumed scope.older) (acts S calls scope rest x) (resumed_change scope.older) (acts_steady scope rest x) st
 
   completes_steady : (scope : Scope) (e : Ending) (x : Option ClassNo) → IsSteady (completes S calls scope e x)

@@ -5,6 +5,7 @@ use Rattle.stx_scenario.specs.declared.numbers.MethodNo.{MethodNo}
 use Rattle.stx_scenario.specs.declared.scenario.Scenario.{Scenario}
 use Rattle.stx_scenario.specs.declared.scenario.Propagation.{Propagation}
 use Rattle.stx_scenario.specs.declared.scenario.TxAttr.{TxAttr}
+use Rattle.stx_base.specs.declared.manager.Action.{Action}
 use Rattle.stx_base.specs.declared.history.StoreNote.{StoreNote}
 use Rattle.stx_base.specs.declared.line.Line.{Line}
 use Rattle.stx_base.specs.declared.manager.Kind.{Kind}
@@ -12,7 +13,6 @@ use Rattle.stx_base.specs.declared.manager.Opening.{Opening}
 use Rattle.stx_base.specs.declared.manager.Ending.{Ending}
 use Rattle.stx_base.specs.declared.manager.Round.{Round}
 use Rattle.stx_model.specs.Contexts.{Context, Live, Registration, with_global_mark}
-use Rattle.stx_model.specs.Ending.{GiveBack, Resumption}
 use Rattle.stx_base.specs.declared.history.Note.{Note}
 use Rattle.stx_model.specs.Meanings.{State, Result, Over, Meaning, state_of, finally, hear}
 use Rattle.stx_model.specs.Reads.{StartsWith}
@@ -78,13 +78,13 @@ AfterCommitComesTooLate =
     → slice_get completed.store 0 ≡ Some (StoreNote.Commit live.transaction number)
     → round_of scope.owns (stopping_round S calls Round.AfterCommit) (hear (Note.Store (StoreNote.Commit live.transaction number)) completed) ≡ Over (Some y) after
     → completes S calls scope Ending.Commit x st
-    ≡ finally (last_round S calls scope.owns true after) (λ _. acts S calls scope (GiveBack ∷ Resumption ∷ []) (Some y))
+    ≡ finally (last_round S calls scope.owns true after) (λ _. acts S calls scope (Action.GiveBack ∷ Action.Resumption ∷ []) (Some y))
 
 -- and the call leaves with that class
 abbrev pub AfterCommitThrowsToTheCaller : Type 0
 AfterCommitThrowsToTheCaller =
     (S : Scenario) (calls : Calls) (scope : Scope) (y : ClassNo) (after : State)
-    → AtEnd (finally (last_round S calls scope.owns true after) (λ _. acts S calls scope (GiveBack ∷ Resumption ∷ []) (Some y))) (λ x end. x ≡ Some y)
+    → AtEnd (finally (last_round S calls scope.owns true after) (λ _. acts S calls scope (Action.GiveBack ∷ Action.Resumption ∷ []) (Some y))) (λ x end. x ≡ Some y)
 
 -- a commit stays said: where the rounds before the store's commit ended and the store committed, the lines of the
 -- completion, whatever its end, begin with those before the commit and the line of the commit

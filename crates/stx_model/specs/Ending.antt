@@ -3,6 +3,7 @@
 -- cleanupAfterCompletion.)
 use Rattle.std.specs.Prelude.{Bool, true, false, ◌||◌, List, [], ◌∷◌, Option, Some, None}
 use Rattle.stx_scenario.specs.declared.numbers.ClassNo.{ClassNo}
+use Rattle.stx_base.specs.declared.manager.Action.{Action}
 use Rattle.stx_base.specs.declared.manager.Kind.{Kind}
 use Rattle.stx_base.specs.declared.manager.Ending.{Ending}
 use Rattle.stx_model.specs.Contexts.{Context, Live}
@@ -25,38 +26,22 @@ ending kind rolls local context = elim (rolls || local) [ true ↦ Ending.Rollba
 
 -- ---- what completes it
 
--- one step of a completion
-pub data Action : Type 0 where
-  RoundBeforeCompletion : Action
-  RoundAfterCommit : Action
-  -- the status that the callbacks are told: committed, or rolled back
-  RoundAfterCompletion : Bool → Action
-  CommitStore : Action
-  RollbackStore : Action
-  BackToPoint : Action
-  ReleasePoint : Action
-  MarkGlobally : Action
-  -- UnexpectedRollbackException arises
-  ThrowUnexpected : Action
-  GiveBack : Action
-  Resumption : Action
-
 -- the actions of a completion, from left to right; a fresh or empty scope that is to commit has its before_commit round
 -- first, and these are the actions where no callback of that round threw
 unfoldable pub completion : Kind → Ending → List Action
 completion Kind.Fresh Ending.Commit =
-    RoundBeforeCompletion ∷ CommitStore ∷ RoundAfterCommit ∷ RoundAfterCompletion true ∷ GiveBack ∷ Resumption ∷ []
-completion Kind.Fresh Ending.Rollback = RoundBeforeCompletion ∷ RollbackStore ∷ RoundAfterCompletion false ∷ GiveBack ∷ Resumption ∷ []
+    Action.RoundBeforeCompletion ∷ Action.CommitStore ∷ Action.RoundAfterCommit ∷ Action.RoundAfterCompletion true ∷ Action.GiveBack ∷ Action.Resumption ∷ []
+completion Kind.Fresh Ending.Rollback = Action.RoundBeforeCompletion ∷ Action.RollbackStore ∷ Action.RoundAfterCompletion false ∷ Action.GiveBack ∷ Action.Resumption ∷ []
 completion Kind.Fresh Ending.Unexpected =
-    RoundBeforeCompletion ∷ RollbackStore ∷ RoundAfterCompletion false ∷ ThrowUnexpected ∷ GiveBack ∷ Resumption ∷ []
+    Action.RoundBeforeCompletion ∷ Action.RollbackStore ∷ Action.RoundAfterCompletion false ∷ Action.ThrowUnexpected ∷ Action.GiveBack ∷ Action.Resumption ∷ []
 completion Kind.Join Ending.Commit = []
-completion Kind.Join Ending.Rollback = MarkGlobally ∷ []
-completion Kind.Join Ending.Unexpected = MarkGlobally ∷ []
-completion Kind.Point Ending.Commit = ReleasePoint ∷ []
-completion Kind.Point Ending.Rollback = BackToPoint ∷ ReleasePoint ∷ []
-completion Kind.Point Ending.Unexpected = BackToPoint ∷ ReleasePoint ∷ ThrowUnexpected ∷ []
-completion Kind.Empty Ending.Commit = RoundBeforeCompletion ∷ RoundAfterCommit ∷ RoundAfterCompletion true ∷ Resumption ∷ []
-completion Kind.Empty Ending.Rollback = RoundBeforeCompletion ∷ RoundAfterCompletion false ∷ Resumption ∷ []
+completion Kind.Join Ending.Rollback = Action.MarkGlobally ∷ []
+completion Kind.Join Ending.Unexpected = Action.MarkGlobally ∷ []
+completion Kind.Point Ending.Commit = Action.ReleasePoint ∷ []
+completion Kind.Point Ending.Rollback = Action.BackToPoint ∷ Action.ReleasePoint ∷ []
+completion Kind.Point Ending.Unexpected = Action.BackToPoint ∷ Action.ReleasePoint ∷ Action.ThrowUnexpected ∷ []
+completion Kind.Empty Ending.Commit = Action.RoundBeforeCompletion ∷ Action.RoundAfterCommit ∷ Action.RoundAfterCompletion true ∷ Action.Resumption ∷ []
+completion Kind.Empty Ending.Rollback = Action.RoundBeforeCompletion ∷ Action.RoundAfterCompletion false ∷ Action.Resumption ∷ []
 completion Kind.Empty Ending.Unexpected = []
 
 -- fresh and empty scopes that are to commit have a before_commit round first (triggerBeforeCommit)

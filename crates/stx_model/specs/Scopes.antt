@@ -7,6 +7,7 @@ use Rattle.stx_scenario.specs.declared.classes.TheConstants.{CANNOT_CREATE_TRANS
 use Rattle.stx_scenario.specs.declared.scenario.Scenario.{Scenario}
 use Rattle.stx_scenario.specs.declared.scenario.Rule.{Rule}
 use Rattle.stx_scenario.specs.declared.scenario.TxAttr.{TxAttr}
+use Rattle.stx_base.specs.declared.manager.Action.{Action}
 use Rattle.stx_base.specs.declared.call.Want.{Want}
 use Rattle.stx_base.specs.declared.line.Line.{Line}
 use Rattle.stx_base.specs.declared.line.Label.{Label}
@@ -17,7 +18,7 @@ use Rattle.stx_base.specs.declared.manager.Round.{Round}
 use Rattle.stx_base.specs.Rules.{winner, rolls_back}
 use Rattle.stx_model.specs.Contexts.{Context, Live, Registration, bare, ordered_labels, with_global_mark}
 use Rattle.stx_model.specs.Opening.{opening}
-use Rattle.stx_model.specs.Ending.{Action, RoundBeforeCompletion, RoundAfterCommit, RoundAfterCompletion, CommitStore, RollbackStore, BackToPoint, ReleasePoint, MarkGlobally, ThrowUnexpected, GiveBack, Resumption, ending, has_before_commit, completion, completion_after}
+use Rattle.stx_model.specs.Ending.{ending, has_before_commit, completion, completion_after}
 use Rattle.stx_model.specs.Meanings.{State, Over, Breaks, Meaning, finally, say, with_context, with_local, ask, on_take, on_begin}
 use Rattle.stx_model.specs.Rounds.{Calls, stopping_round, swallowing_round, round_of, last_round}
 
@@ -117,24 +118,24 @@ module _ (S : Scenario) (calls : Calls) where
   -- the actions of a completion, with the exception that the call leaves with so far
   unfoldable pub acts : Scope → List Action → Option ClassNo → Meaning
   acts scope [] x st = leaves scope.method x (with_local scope.outer st)
-  acts scope (RoundBeforeCompletion ∷ rest) x st =
+  acts scope (Action.RoundBeforeCompletion ∷ rest) x st =
       finally (round_of scope.owns (swallowing_round S calls Round.BeforeCompletion false) st) (λ _. acts scope rest x)
-  acts scope (RoundAfterCommit ∷ rest) x st =
+  acts scope (Action.RoundAfterCommit ∷ rest) x st =
       finally (round_of scope.owns (stopping_round S calls Round.AfterCommit) st) (λ y. acts scope rest (later_or y x))
-  acts scope (RoundAfterCompletion committed ∷ rest) x st = finally (last_round S calls scope.owns committed st) (λ _. acts scope rest x)
-  acts scope (CommitStore ∷ rest) x st =
+  acts scope (Action.RoundAfterCompletion committed ∷ rest) x st = finally (last_round S calls scope.owns committed st) (λ _. acts scope rest x)
+  acts scope (Action.CommitStore ∷ rest) x st =
       live_in st.context.tx (λ live. ask (Want.Commit live.transaction) (λ _. acts scope rest x)) st
-  acts scope (RollbackStore ∷ rest) x st =
+  acts scope (Action.RollbackStore ∷ rest) x st =
       live_in st.context.tx (λ live. ask (Want.Rollback live.transaction) (λ _. acts scope rest x)) st
-  acts scope (BackToPoint ∷ rest) x st =
+  acts scope (Action.BackToPoint ∷ rest) x st =
       live_in st.context.tx (λ live. ask (Want.BackTo live.transaction) (λ _ back. acts scope rest x (with_context (with_global_mark false back.context) back))) st
-  acts scope (ReleasePoint ∷ rest) x st =
+  acts scope (Action.ReleasePoint ∷ rest) x st =
       live_in st.context.tx (λ live. ask (Want.Release live.transaction) (λ _. acts scope rest x)) st
-  acts scope (MarkGlobally ∷ rest) x st = acts scope rest x (say Line.MarkGlobal (with_context (with_global_mark true st.context) st))
-  acts scope (ThrowUnexpected ∷ rest) x st =
+  acts scope (Action.MarkGlobally ∷ rest) x st = acts scope rest x (say Line.MarkGlobal (with_context (with_global_mark true st.context) st))
+  acts scope (Action.ThrowUnexpected ∷ rest) x st =
       acts scope rest (Some UNEXPECTED_ROLLBACK_EXCEPTION) (say (Line.Throw UNEXPECTED_ROLLBACK_EXCEPTION) st)
-  acts scope (GiveBack ∷ rest) x st = live_in st.context.tx (λ live. ask (Want.Give live.connection) (λ _. acts scope rest x)) st
-  acts scope (Resumption ∷ rest) x st = acts scope rest x (resumed scope.older st)
+  acts scope (Action.GiveBack ∷ rest) x st = live_in st.context.tx (λ live. ask (Want.Give live.connection) (λ _. acts scope rest x)) st
+  acts scope (Action.Resumption ∷ rest) x st = acts scope rest x (resumed scope.older st)
 
   -- the before_commit round, where there is one, and then the actions; an exception of the round is the call's
   unfoldable pub completes : Scope → Ending → Option ClassNo → Meaning

@@ -13,7 +13,7 @@ pub use laws::{
     scripts_grow, wants_proper,
 };
 pub use stx_base::{
-    Access, Answer, Call, ClientLines, Connection, Cost, Ending, Kind, Label, Line, Note, Opening,
-    Outcome, PoolAnswer, PoolCall, PoolEntry, PoolNote, Reply, Report, Round, Session, StoreAnswer,
-    StoreCall, StoreEntry, StoreFacts, StoreNote, ToolEnd, Want,
+    Access, Action, Answer, Call, ClientLines, Connection, Cost, Ending, Kind, Label, Line, Note,
+    Opening, Outcome, PoolAnswer, PoolCall, PoolEntry, PoolNote, Reply, Report, Round, Session,
+    StoreAnswer, StoreCall, StoreEntry, StoreFacts, StoreNote, ToolEnd, Want,
 };
