@@ -15,12 +15,13 @@ use Rattle.stx_base.specs.declared.line.Line.{Line}
 use Rattle.stx_base.specs.Stores.{store_proper}
 use Rattle.stx_base.specs.Valid.{IsInOrder}
 use Rattle.stx_model.specs.Contexts.{Context}
-use Rattle.stx_model.specs.Brackets.{IsBalanced, connection_bracket, transaction_bracket, IsResumedInOrder, IsCompletedOnce, top_calls}
+use Rattle.stx_model.specs.Brackets.{IsBalanced, connection_bracket, transaction_bracket, binding_bracket, IsResumedInOrder, IsCompletedOnce, top_calls}
 use Rattle.stx_model.proofs.BracketLaws.{once_if_settled}
 use Rattle.stx_model.specs.Reads.{TakesFresh, BeginsFresh}
 use Rattle.stx_model.proofs.ProperLaws.{wants_proper}
 use Rattle.stx_model.proofs.FlatRows.{writes_and_reads, written_and_read}
 use Rattle.stx_model.proofs.NoteRows.{Stands}
+use Rattle.stx_model.proofs.ShopRow.{placed}
 use Rattle.stx_model.proofs.Small.{m, a, pool_note, store_note}
 use Rattle.stx_model.proofs.Traces.{top, call, leave, open_fresh_sync, take, give, begin, suspend, resume, register, after_completion_committed}
 
@@ -130,3 +131,20 @@ completed_early h = let no : 1 ≤ 0 = h.never_more (after_completion_committed 
 -- each top-level call is one list of lines
 pub two_top_calls : top_calls (top 0 ∷ leave m ∷ top 1 ∷ leave m ∷ []) ≡ (top 0 ∷ leave m ∷ []) ∷ (top 1 ∷ leave m ∷ []) ∷ []
 two_top_calls = refl
+
+-- ---- a whole order, with two calls that stand apart, a savepoint and a listener
+
+pub an_order_gives_back : IsBalanced (map connection_bracket placed)
+an_order_gives_back = refl
+
+pub an_order_ends_what_it_began : IsBalanced (map transaction_bracket placed)
+an_order_ends_what_it_began = refl
+
+pub an_order_binds_again : IsBalanced (map binding_bracket placed)
+an_order_binds_again = refl
+
+pub an_order_resumes : IsResumedInOrder placed
+an_order_resumes = refl
+
+pub an_order_completes_its_listener : IsCompletedOnce (Label.Listener (record { 0 = 0 })) placed
+an_order_completes_its_listener = once_if_settled (Label.Listener (record { 0 = 0 })) placed refl
