@@ -16,6 +16,7 @@ pub mod PlainRows
 pub mod FlatRows
 pub mod ShopRow
 pub mod NoteRows
+pub mod ValidRow
 pub mod ReadsRows
 pub mod ReportRows
 pub mod SerialRows

@@ -1,10 +1,9 @@
 -- Worked rows: notes that are fresh and notes that aren't, the law on proper wants at work, a run over stale notes whose
 -- want isn't proper, lines that aren't balanced, and labels that aren't resumed in order or completed once.
-use Rattle.std.proofs.Common.{◌≡◌, ℕ, pos, ◌≤◌, true, false, List, [], ◌∷◌, map, Some, refl, sym, arith, IsTrue}
+use Rattle.std.proofs.Common.{◌≡◌, ℕ, pos, ◌≤◌, false, List, [], ◌∷◌, map, Some, refl, sym, arith, IsTrue}
 use Rattle.std.specs.Prelude.{◌++◌}
 use Rattle.std.specs.List.{IsDistinct, filter_map}
 use Rattle.std.proofs.lemmas.Bool.{false≢true}
-use Rattle.stx_scenario.specs.declared.scenario.Scenario.{Scenario}
 use Rattle.stx_scenario.specs.declared.scenario.Propagation.{Propagation}
 use Rattle.stx_base.specs.declared.call.Want.{Want}
 use Rattle.stx_base.specs.declared.history.Access.{Access}
@@ -13,14 +12,18 @@ use Rattle.stx_base.specs.declared.history.StoreNote.{StoreNote}
 use Rattle.stx_base.specs.declared.line.Label.{Label}
 use Rattle.stx_base.specs.declared.line.Line.{Line}
 use Rattle.stx_base.specs.Stores.{store_proper}
-use Rattle.stx_base.specs.Valid.{IsInOrder}
 use Rattle.stx_model.specs.Contexts.{Context}
-use Rattle.stx_model.specs.Brackets.{IsBalanced, connection_bracket, transaction_bracket, IsResumedInOrder, IsCompletedOnce, top_calls}
+use Rattle.stx_model.specs.Brackets.{IsBalanced, connection_bracket, transaction_bracket, binding_bracket, IsResumedInOrder, IsCompletedOnce, top_calls}
 use Rattle.stx_model.proofs.BracketLaws.{once_if_settled}
 use Rattle.stx_model.specs.Reads.{TakesFresh, BeginsFresh}
+use Rattle.stx_model.specs.Faithful.{Faithful}
+use Rattle.stx_model.specs.Played.{played}
+use Rattle.stx_model.proofs.PlayedFaithful.{played_is_faithful}
 use Rattle.stx_model.proofs.ProperLaws.{wants_proper}
-use Rattle.stx_model.proofs.FlatRows.{writes_and_reads, written_and_read}
+use Rattle.stx_model.proofs.ValidRow.{twice, twice_is_valid}
+use Rattle.stx_model.proofs.FlatRows.{written_and_read}
 use Rattle.stx_model.proofs.NoteRows.{Stands}
+use Rattle.stx_model.proofs.ShopRow.{placed}
 use Rattle.stx_model.proofs.Small.{m, a, pool_note, store_note}
 use Rattle.stx_model.proofs.Traces.{top, call, leave, open_fresh_sync, take, give, begin, suspend, resume, register, after_completion_committed}
 
@@ -34,9 +37,6 @@ pub taken_twice : ¬ TakesFresh (PoolNote.Taken 1 ∷ PoolNote.Taken 1 ∷ [])
 taken_twice h = false≢true (sym h.1.0)
 
 -- ---- a second call, whose transaction bears this number
-
-abbrev twice : Scenario
-twice = record writes_and_reads { clients = (m ∷ m ∷ []) ∷ [] }
 
 abbrev second_begun : ℕ → List Line
 second_begun t = written_and_read ++ top 1 ∷ call m Propagation.Required ∷ take 1 ∷ begin t ∷ open_fresh_sync ∷ []
@@ -59,23 +59,22 @@ pub begun_anew : BeginsFresh (notes 2)
 unfolding IsDistinct
 begun_anew = ((refl, tt), (tt, tt))
 
--- the law at work: in a valid scenario that access is proper
-pub law_applies : IsInOrder twice → IsTrue (store_proper (notes 2) (write_of 2))
+-- the law's premises can be met
+pub law_applies : IsTrue (store_proper (notes 2) (write_of 2))
 unfolding Stands
-law_applies valid = wants_proper twice valid 0 (filter_map pool_note (second_begun 2)) (notes 2) (write_of 2)
+law_applies = wants_proper twice twice_is_valid 0 (filter_map pool_note (second_begun 2)) (notes 2) (write_of 2)
     (record { lines = second_begun 2; context = bound 2; local = Some false; pool = []; store = [] }) (second_wants 2) refl refl begun_anew
 
--- and so it is, as it computes
-pub new_is_proper : store_proper (notes 2) (write_of 2) ≡ true
-unfolding store_proper
-new_is_proper = refl
+-- and so can those of the law on plays
+pub every_play_is_faithful : (schedule : List ℕ) → Faithful twice (played twice schedule)
+every_play_is_faithful schedule = played_is_faithful twice twice_is_valid schedule
 
 -- a number may not be begun again, not even after its end
 pub begun_twice : ¬ BeginsFresh (notes 1)
 unfolding IsDistinct
 begun_twice h = false≢true (sym h.0.0)
 
--- over those notes the access names a transaction that has ended
+-- over those notes the law's other premises hold, but the access names a transaction that has ended
 pub stale_is_improper : store_proper (notes 1) (write_of 1) ≡ false
 unfolding store_proper
 stale_is_improper = refl
@@ -130,3 +129,20 @@ completed_early h = let no : 1 ≤ 0 = h.never_more (after_completion_committed 
 -- each top-level call is one list of lines
 pub two_top_calls : top_calls (top 0 ∷ leave m ∷ top 1 ∷ leave m ∷ []) ≡ (top 0 ∷ leave m ∷ []) ∷ (top 1 ∷ leave m ∷ []) ∷ []
 two_top_calls = refl
+
+-- ---- a whole order, with two calls that stand apart, a savepoint and a listener
+
+pub an_order_gives_back : IsBalanced (map connection_bracket placed)
+an_order_gives_back = refl
+
+pub an_order_ends_what_it_began : IsBalanced (map transaction_bracket placed)
+an_order_ends_what_it_began = refl
+
+pub an_order_binds_again : IsBalanced (map binding_bracket placed)
+an_order_binds_again = refl
+
+pub an_order_resumes : IsResumedInOrder placed
+an_order_resumes = refl
+
+pub an_order_completes_its_listener : IsCompletedOnce (Label.Listener (record { 0 = 0 })) placed
+an_order_completes_its_listener = once_if_settled (Label.Listener (record { 0 = 0 })) placed refl
