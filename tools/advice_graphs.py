@@ -2,6 +2,7 @@
 from tools import places, sentences
 from tools.advice_parts import Advice, found, quoted
 from tools.form import DEEPEST, HEAVIEST, listed
+from tools.say import counted
 from tools.scenario import client_weights, sizes, way_round
 
 
@@ -189,7 +190,7 @@ def too_large(document, refused):
     whole, alone, size = (each if each < 10**15 else "more than 10^15" for each in (sum(weights), weights[heavy], size))
     says = f"the clients weigh {whole} together, client {heavy} alone {alone}; its heaviest call is {largest}, of size {size}"
     if registrations:
-        says += f" with {registrations} registrations, and each registration counts all of the client's size once more"
+        says += f" with {counted(registrations, 'registration')}, and each one counts all of the client's size once more"
     return Advice(
         place, says, f"at most {HEAVIEST} together", f"let client {heavy} make fewer calls, or give some of them to another client or file",
     )
