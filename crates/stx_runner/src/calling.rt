@@ -36,5 +36,6 @@ pub(crate) fn call_and_hear<R: Wait, G: Gate>(
     gate.before(number, nth);
     let asked = backend.ask(rt, alloc, cells, call);
     gate.after(number, nth);
-    client.feed(alloc, asked?)
+    let reply = asked?;
+    client.feed(alloc, reply)
 }

@@ -11,13 +11,13 @@ ask-asked-requires-clause-proper g c = proper_call c.args.client.now c.args.back
 pub returns-clause-going : goal.returns-clause-going
 returns-clause-going g c =
     on_ok_two c.feed.result (λ is_fed read.
-    going_after c.args.client.now c.args.backend.now c.requires.ready c.next-call.result c.in_ok-asked.field-0 c.ask-asked.new.self c.feed.new.self c.in_ok-asked.ensures.asked
-    (is_fed ∙ ap (λ v. fed v c.in_ok-asked.field-0) c.next-call.ensures.out) read)
+    going_after c.args.client.now c.args.backend.now c.requires.ready c.next-call.result c.in_ok-reply.reply c.ask-asked.new.self c.feed.new.self c.in_ok-reply.ensures.asked
+    (is_fed ∙ ap (λ v. fed v c.in_ok-reply.reply) c.next-call.ensures.out) read)
     c.feed.ensures.ok c.feed.ensures.read
 
 pub returns-clause-one_more : goal.returns-clause-one_more
 returns-clause-one_more g c =
     on_ok_two c.feed.result (λ is_fed read.
-    one_more_after c.args.client.now c.args.backend.now c.requires.ready c.next-call.result c.in_ok-asked.field-0 c.ask-asked.new.self c.feed.new.self c.in_ok-asked.ensures.asked
-    (is_fed ∙ ap (λ v. fed v c.in_ok-asked.field-0) c.next-call.ensures.out))
+    one_more_after c.args.client.now c.args.backend.now c.requires.ready c.next-call.result c.in_ok-reply.reply c.ask-asked.new.self c.feed.new.self c.in_ok-reply.ensures.asked
+    (is_fed ∙ ap (λ v. fed v c.in_ok-reply.reply) c.next-call.ensures.out))
     c.feed.ensures.ok c.feed.ensures.read

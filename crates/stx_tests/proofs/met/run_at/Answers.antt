@@ -1,0 +1,17 @@
+-- What a valid scenario is relied on for.
+use Rattle.std.proofs.Common.{sym, subst}
+use Rattle.stx_judge.proofs.JudgeLaws.{valid_is_in_order}
+use Rattle.stx_model.specs.Playable.{IsPlayable}
+use Rattle.stx_tests.proofs.met.run_at.Goals as goal
+
+pub new-requires-clause-tree : goal.new-requires-clause-tree
+new-requires-clause-tree g c = (valid_is_in_order c.args.scenario c.requires.valid).tree
+
+pub run-requires-after_bounds : goal.run-requires-after_bounds
+run-requires-after_bounds g c = λ _ _.
+    subst IsPlayable (sym c.in_ok-setup.ensures)
+    (record {
+      shaped = c.requires.valid.shaped;
+      order = valid_is_in_order c.args.scenario c.requires.valid;
+      built = c.requires.built;
+    })
