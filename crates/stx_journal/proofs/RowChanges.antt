@@ -6,7 +6,7 @@ use Rattle.std.specs.Option.{option_eq, unwrap_or, is_some}
 use Rattle.std.specs.Ordering.{nat_cmp, int_eq, eq_by_cmp, is_lt, is_eq}
 use Rattle.std.specs.declared.cmp.Ordering.{Ordering}
 use Rattle.std.specs.Cmp.{unsigned_tied}
-use Rattle.std.specs.FinMap.{FinMap, find, get, insert, remove, entries, keys, from_entries, from_sorted, is_sorted, get-entries, get-insert, get-remove, get-from_entries, get-from_sorted, entries-from_sorted, entries_sorted, contains_key-keys, same_map, nat_cmp-IsAntisymmetric}
+use Rattle.std.specs.FinMap.{find, get, insert, entries, keys, from_entries, from_sorted, is_sorted, get-entries, get-insert, get-remove, get-from_entries, get-from_sorted, entries-from_sorted, entries_sorted, contains_key-keys, same_map, nat_cmp-IsAntisymmetric}
 use Rattle.std.specs.FinMap.Entries.{below_all}
 use Rattle.std.specs.BTreeMap.{is_at}
 use Rattle.std.specs.Map.{lookup, keys_of}
@@ -96,13 +96,13 @@ find_changes before now [] q = refl
 find_changes before now (k ∷ ks) q =
     let rest = find_changes before now ks q in
     let step : (tied : Bool) → eq_by_cmp nat_cmp q k ≡ tied
-        → find nat_cmp q (cons_option (change_at before now k) (filter_map (change_at before now) ks)) ≡ cond (tied || list_any (eq_by_cmp nat_cmp q) ks) (change_to (get before q) (get now q)) None =
+    → find nat_cmp q (cons_option (change_at before now k) (filter_map (change_at before now) ks)) ≡ cond (tied || list_any (eq_by_cmp nat_cmp q) ks) (change_to (get before q) (get now q)) None =
     λ tied. elim tied as (λ t. eq_by_cmp nat_cmp q k ≡ t → find nat_cmp q (cons_option (change_at before now k) (filter_map (change_at before now) ks)) ≡ cond (t || list_any (eq_by_cmp nat_cmp q) ks) (change_to (get before q) (get now q)) None) [
       | true ↦ λ is.
           let same : q ≡ k = eqb-true q k (sym (unsigned_tied q k) ∙ is) in
           found_one q k true (get before k) (get now k) _ (filter_map (change_at before now) ks) is rest
           ∙ at_key (option_eq int_eq (get before k) (get now k)) (option_eq int_eq (get before q) (get now q)) (list_any (eq_by_cmp nat_cmp q) ks) (get now k) (get now q)
-              (ap (λ j. option_eq int_eq (get before j) (get now j)) (sym same)) (ap (get now) (sym same))
+          (ap (λ j. option_eq int_eq (get before j) (get now j)) (sym same)) (ap (get now) (sym same))
       | false ↦ λ is. found_one q k false (get before k) (get now k) _ (filter_map (change_at before now) ks) is rest ∙ both_same (option_eq int_eq (get before k) (get now k)) _
     ] in
     step (eq_by_cmp nat_cmp q k) refl
@@ -139,8 +139,8 @@ find_net before now q =
     or_false (list_any (eq_by_cmp nat_cmp q) (keys before)) (list_any (eq_by_cmp nat_cmp q) (keys now)) (sym (list_any-append (eq_by_cmp nat_cmp q) (keys before) (keys now)) ∙ none) in
     find_changes before now (keys before ++ keys now) q
     ∙ no_change (list_any (eq_by_cmp nat_cmp q) (keys before ++ keys now)) (get before q) (get now q)
-        (λ none. not_there (get before q) (contains_key-keys before q ∙ (parts none).0))
-        (λ none. not_there (get now q) (contains_key-keys now q ∙ (parts none).1))
+    (λ none. not_there (get before q) (contains_key-keys before q ∙ (parts none).0))
+    (λ none. not_there (get now q) (contains_key-keys now q ∙ (parts none).1))
 
 -- rising changes in which each row is found with its change are the changes from one map to the other
 pub net_is : (before now : RowMap) (es : List Change) → T (is_sorted nat_cmp es) → ((q : ℕ) → find nat_cmp q es ≡ change_to (get before q) (get now q)) → net before now ≡ map change_row es
@@ -149,8 +149,22 @@ net_is before now es rise found =
     let all = filter_map (change_at before now) (keys before ++ keys now) in
     let same : from_entries {R = nat_cmp} all ≡ from_sorted {R = nat_cmp} es =
     same_map nat_cmp_total nat_cmp-IsAntisymmetric (from_entries {R = nat_cmp} all) (from_sorted {R = nat_cmp} es)
-        (λ q. get-from_entries nat_cmp_total all q ∙ find_net before now q ∙ sym (found q) ∙ sym (get-from_sorted nat_cmp es q rise)) in
+    (λ q. get-from_entries nat_cmp_total all q ∙ find_net before now q ∙ sym (found q) ∙ sym (get-from_sorted nat_cmp es q rise)) in
     ap (λ m. map change_row (entries m)) same ∙ ap (map change_row) (entries-from_sorted nat_cmp es rise)
+
+-- where each row changes alike, the changes are the same
+pub net-same : (before now before' now' : RowMap) → ((q : ℕ) → change_to (get before q) (get now q) ≡ change_to (get before' q) (get now' q)) → net before now ≡ net before' now'
+unfolding net
+net-same before now before' now' same =
+    let all = filter_map (change_at before now) (keys before ++ keys now) in
+    let all' = filter_map (change_at before' now') (keys before' ++ keys now') in
+    ap (λ m. map change_row (entries m))
+    (same_map nat_cmp_total nat_cmp-IsAntisymmetric (from_entries {R = nat_cmp} all) (from_entries {R = nat_cmp} all')
+    (λ q. get-from_entries nat_cmp_total all q ∙ find_net before now q ∙ same q ∙ sym (find_net before' now' q) ∙ sym (get-from_entries nat_cmp_total all' q)))
+
+pub unchanged : (value : Option ℤ) → change_to value value ≡ None
+unchanged None = refl
+unchanged (Some v) = ap (λ b. cond b None (Some (Some v))) ((Decides-int_eq v v).1 refl)
 
 same_int : (v w : ℤ) → int_eq v w ≡ true → v ≡ w
 same_int v w h = (Decides-int_eq v w).0 h
@@ -169,10 +183,10 @@ changed-net before now =
     let all = from_entries {R = nat_cmp} (filter_map (change_at before now) (keys before ++ keys now)) in
     same_map nat_cmp_total nat_cmp-IsAntisymmetric (changed before (map change_row (entries all))) now
     (λ q.
-        ap (λ m. get m q) (changed-rows before (entries all))
-        ∙ set_all-at before (entries all) q (entries_sorted all)
-        ∙ ap (λ c. unwrap_or c (get before q)) (sym (get-entries all q) ∙ get-from_entries nat_cmp_total (filter_map (change_at before now) (keys before ++ keys now)) q ∙ find_net before now q)
-        ∙ same_option (get before q) (get now q) (option_eq int_eq (get before q) (get now q)) refl)
+    ap (λ m. get m q) (changed-rows before (entries all))
+    ∙ set_all-at before (entries all) q (entries_sorted all)
+    ∙ ap (λ c. unwrap_or c (get before q)) (sym (get-entries all q) ∙ get-from_entries nat_cmp_total (filter_map (change_at before now) (keys before ++ keys now)) q ∙ find_net before now q)
+    ∙ same_option (get before q) (get now q) (option_eq int_eq (get before q) (get now q)) refl)
 
 -- ---- a map that is kept as the list of its entries
 
@@ -194,9 +208,9 @@ pub kept_set : (es fs : List (ℕ × ℤ)) (k : ℕ) (value : Option ℤ) → Up
 kept_set es fs k value updated =
     same_map nat_cmp_total nat_cmp-IsAntisymmetric (from_entries {R = nat_cmp} fs) (set_row (from_entries es) k value)
     (λ q.
-        kept-at fs q ∙ updated q ∙ ap (λ b. cond b value (lookup (is_at (nat_cmp q)) es)) (same_key k q)
-        ∙ ap (cond (q == k) value) (sym (kept-at es q))
-        ∙ sym (set_row-at (from_entries es) k value q))
+    kept-at fs q ∙ updated q ∙ ap (λ b. cond b value (lookup (is_at (nat_cmp q)) es)) (same_key k q)
+    ∙ ap (cond (q == k) value) (sym (kept-at es q))
+    ∙ sym (set_row-at (from_entries es) k value q))
 
 rises : (k : ℕ) (es : List (ℕ × ℤ)) → AllByRecursion (λ y. nat_cmp k y ≡ Ordering.Less) (keys_of es) → T (below_all nat_cmp k es)
 rises k [] h = tt
@@ -220,7 +234,7 @@ pub kept-entries : (es : List (ℕ × ℤ)) → IsStrictlySortedBy nat_cmp (keys
 kept-entries es sorted =
     let rise = rising es sorted in
     ap entries (same_map nat_cmp_total nat_cmp-IsAntisymmetric (from_entries {R = nat_cmp} es) (from_sorted {R = nat_cmp} es)
-        (λ q. get-from_entries nat_cmp_total es q ∙ sym (get-from_sorted nat_cmp es q rise)))
+    (λ q. get-from_entries nat_cmp_total es q ∙ sym (get-from_sorted nat_cmp es q rise)))
     ∙ entries-from_sorted nat_cmp es rise
 
 abbrev pub value_row : ℕ × ℤ → RowValue
@@ -257,7 +271,7 @@ first_rows-more values i None within is = absurd (missing values i within (sym i
 first_rows-more values i (Some v) within is =
     same_map nat_cmp_total nat_cmp-IsAntisymmetric (insert (first_rows (take i values)) i v) (first_rows (take (i + 1) values))
     (λ q.
-        set_row-at (first_rows (take i values)) i (Some v) q
-        ∙ ap (cond (q == i) (Some v)) (first_rows-at (take i values) q)
-        ∙ more_at values i q v (sym is)
-        ∙ sym (first_rows-at (take (i + 1) values) q))
+    set_row-at (first_rows (take i values)) i (Some v) q
+    ∙ ap (cond (q == i) (Some v)) (first_rows-at (take i values) q)
+    ∙ more_at values i q v (sym is)
+    ∙ sym (first_rows-at (take (i + 1) values) q))

@@ -2,3 +2,4 @@ pub mod TurnLaws
 pub mod RangeLaws
 pub mod PlayedLaws
 pub mod ScheduleLaws
+mod NewLaws

@@ -1,24 +1,23 @@
 -- The changes of an undo list are the net changes.
-use Rattle.std.proofs.Common.{◌≡◌, ℕ, ℤ, Bool, true, false, ◌&&◌, ◌==◌, cond, List, [], ◌∷◌, Option, Some, None, filter_map, map, refl, sym, ap, ◌∙◌, subst, eqb-true}
+use Rattle.std.proofs.Common.{◌≡◌, ℕ, ℤ, Bool, true, false, ◌&&◌, cond, List, [], ◌∷◌, Option, Some, None, filter_map, map, refl, sym, ap, ◌∙◌, subst, eqb-true}
 use Rattle.std.specs.Prelude.{T}
 use Rattle.std.specs.Bool.{nat_eq}
 use Rattle.std.specs.Option.{option_eq, option_map, unwrap_or}
 use Rattle.std.specs.List.{cons_option, AllByRecursion}
 use Rattle.std.specs.List.Sorted.{IsStrictlySortedBy}
 use Rattle.std.specs.Map.{lookup, keys_of}
-use Rattle.std.specs.Ordering.{nat_cmp, int_eq, eq_by_cmp, is_lt, is_eq}
+use Rattle.std.specs.Ordering.{nat_cmp, int_eq, is_lt}
 use Rattle.std.specs.declared.cmp.Ordering.{Ordering}
-use Rattle.std.specs.BTreeMap.{BTreeMap, is_at, get as tree_get}
+use Rattle.std.specs.BTreeMap.{BTreeMap, is_at}
 use Rattle.std.specs.FinMap.{find, is_sorted, get as finite_get}
 use Rattle.std.specs.Cmp.{unsigned_tied}
 use Rattle.std.specs.FinMap.Entries.{below_all}
-use Rattle.std.proofs.lemmas.Bool.{false≢true}
 use Rattle.std.proofs.lemmas.Bool.Decides.{Decides-int_eq}
 use Rattle.indexmap.specs.IndexMap.{IndexMap, get}
 use Rattle.stx_base.specs.Alone.{RowMap, net}
 use Rattle.stx_journal.proofs.RowChanges.{change_to, net_is, none_below}
 use Rattle.stx_rows.specs.declared.undo.First.{First}
-use Rattle.stx_rows.specs.inner.Undoing.{Older, first_from, FirstsAre, change_of, change_row, value_of, AreValues, WereValues}
+use Rattle.stx_rows.specs.inner.Undoing.{Older, FirstsAre, change_of, change_row, value_of, AreValues, WereValues}
 use Rattle.stx_rows.proofs.UndoLaws.{find-first}
 
 abbrev pub change_now : {S : Type 0} → IndexMap ℕ (Option ℤ) S → ℕ × First → Option Older
@@ -86,7 +85,7 @@ module _ {S : Type 0} (slots : IndexMap ℕ (Option ℤ) S) where
   changes_are_net first older before now sorted firsts are were =
       net_is before now (filter_map (change_now slots) first.entries) (changes_rise first.entries sorted)
       (λ q.
-          find_changes q first.entries sorted
-          ∙ first_changed q (lookup (is_at (nat_cmp q)) first.entries) (finite_get before q) (finite_get now q)
-              (were q ∙ ap (λ o. unwrap_or o (finite_get now q)) (find-first 0 q older ∙ ap (option_map (λ f. f.value)) (sym (firsts q))))
-              (are q))
+      find_changes q first.entries sorted
+      ∙ first_changed q (lookup (is_at (nat_cmp q)) first.entries) (finite_get before q) (finite_get now q)
+      (were q ∙ ap (λ o. unwrap_or o (finite_get now q)) (find-first 0 q older ∙ ap (option_map (λ f. f.value)) (sym (firsts q))))
+      (are q))

@@ -5,13 +5,12 @@ use Rattle.std.specs.Option.{option_map, unwrap_or, is_some}
 use Rattle.std.specs.Map.{lookup}
 use Rattle.std.specs.Ordering.{nat_cmp, eq_by_cmp}
 use Rattle.std.specs.Cmp.{unsigned_tied}
-use Rattle.std.specs.FinMap.{FinMap, find, get, insert, empty, entries, entries_sorted, contains_key, from_entries, get-empty, get-entries, get-insert, get-from_entries, same_map, nat_cmp-IsAntisymmetric}
+use Rattle.std.specs.FinMap.{find, get, insert, empty, entries, entries_sorted, contains_key, from_entries, get-empty, get-entries, get-insert, get-from_entries, same_map, nat_cmp-IsAntisymmetric}
 use Rattle.std.specs.Result.{OnErr}
 use Rattle.std.proofs.lemmas.Bool.{false≢true, cases_eq}
 use Rattle.std.proofs.lemmas.Cmp.{nat_cmp_total, nat_eq_equiv}
 use Rattle.stx_base.specs.Alone.{RowMap}
-use Rattle.stx_journal.specs.Journal.{set_row}
-use Rattle.stx_journal.proofs.RowChanges.{set_row-at, set_all, set_all-at, take_same, take_here}
+use Rattle.stx_journal.proofs.RowChanges.{set_row-at, set_all-at, take_same, take_here}
 use Rattle.stx_rows.specs.Rows.{OlderMap, kept, kept_last, moved_into, dropped, emptied, put_back, put_back_last, put_back_all, some_stack}
 use Rattle.stx_rows.specs.inner.Undoing.{Older, noted, joined, flat, value_of, slot_map, stack_map, levels_in, innermost_level, emptied_level, PopsLast, HasPlaces, HavePlaces}
 
@@ -95,10 +94,10 @@ level-noted : (level : List Older) (k : ℕ) (value : Option ℤ) → from_entri
 level-noted level k value =
     same_map nat_cmp_total nat_cmp-IsAntisymmetric (from_entries {R = nat_cmp} (level ++ (k, value) ∷ [])) (kept (from_entries level) k value)
     (λ q.
-        get-from_entries nat_cmp_total (level ++ (k, value) ∷ []) q
-        ∙ find-both q level ((k, value) ∷ [])
-        ∙ (λ i. or_else (sym (get-from_entries nat_cmp_total level q) i) (find-one q k value i))
-        ∙ sym (kept-at (from_entries level) k value q))
+    get-from_entries nat_cmp_total (level ++ (k, value) ∷ []) q
+    ∙ find-both q level ((k, value) ∷ [])
+    ∙ (λ i. or_else (sym (get-from_entries nat_cmp_total level q) i) (find-one q k value i))
+    ∙ sym (kept-at (from_entries level) k value q))
 
 pub levels-kept : (levels : List (List Older)) (k : ℕ) (value : Option ℤ) → map from_entries (noted levels (k, value)) ≡ kept_last k value (map from_entries levels)
 levels-kept [] k value = refl
@@ -126,14 +125,18 @@ moved below (e ∷ es) q =
     ∙ or_else-assoc (get below q) (cond (q == e.0) (Some e.1) None) (find nat_cmp q es)
     ∙ ap (or_else (get below q)) (or_else-cond (q == e.0) e.1 (find nat_cmp q es) ∙ ap (λ b. cond b (Some e.1) (find nat_cmp q es)) (sym (unsigned_tied q e.0)))
 
+-- a map that has moved into the one below
+pub moved-at : (below m : OlderMap) (q : ℕ) → get (moved_into below m) q ≡ or_else (get below q) (get m q)
+moved-at below m q = moved below (entries m) q ∙ ap (or_else (get below q)) (sym (get-entries m q))
+
 level-joined : (next level : List Older) → from_entries {R = nat_cmp} (next ++ level) ≡ moved_into (from_entries next) (from_entries level)
 level-joined next level =
     same_map nat_cmp_total nat_cmp-IsAntisymmetric (from_entries {R = nat_cmp} (next ++ level)) (moved_into (from_entries next) (from_entries level))
     (λ q.
-        get-from_entries nat_cmp_total (next ++ level) q
-        ∙ find-both q next level
-        ∙ (λ i. or_else (sym (get-from_entries nat_cmp_total next q) i) ((sym (get-from_entries nat_cmp_total level q) ∙ get-entries (from_entries {R = nat_cmp} level) q) i))
-        ∙ sym (moved (from_entries next) (entries (from_entries level)) q))
+    get-from_entries nat_cmp_total (next ++ level) q
+    ∙ find-both q next level
+    ∙ (λ i. or_else (sym (get-from_entries nat_cmp_total next q) i) ((sym (get-from_entries nat_cmp_total level q) ∙ get-entries (from_entries {R = nat_cmp} level) q) i))
+    ∙ sym (moved (from_entries next) (entries (from_entries level)) q))
 
 pub levels-dropped : (levels : List (List Older)) → map from_entries (joined levels) ≡ dropped (map from_entries levels)
 levels-dropped [] = refl
@@ -145,6 +148,9 @@ levels-emptied [] = refl
 levels-emptied (level ∷ below) = refl
 
 -- ---- older values that are put back
+
+pub put_back-map : (rows : RowMap) (m : OlderMap) (q : ℕ) → get (put_back rows m) q ≡ unwrap_or (get m q) (get rows q)
+put_back-map rows m q = set_all-at rows (entries m) q (entries_sorted m) ∙ ap (λ o. unwrap_or o (get rows q)) (sym (get-entries m q))
 
 put_back-at : (rows : RowMap) (level : List Older) (q : ℕ) → get (put_back rows (from_entries level)) q ≡ unwrap_or (find nat_cmp q level) (get rows q)
 put_back-at rows level q =
@@ -202,10 +208,10 @@ popped-placed slots old new first row value popped (level, below, was, is) whole
     (ap (λ ls. is_some (find nat_cmp row (flat ls))) (whole ∙ ap (λ ls. extended ls popped) was)
     ∙ ap is_some (find-both row (flat below) ((level ++ (row, value) ∷ []) ++ popped))
     ∙ later (find nat_cmp row (flat below)) (find nat_cmp row ((level ++ (row, value) ∷ []) ++ popped))
-      (ap is_some (find-both row (level ++ (row, value) ∷ []) popped)
-      ∙ sooner (find nat_cmp row (level ++ (row, value) ∷ [])) (find nat_cmp row popped)
-        (ap is_some (find-both row level ((row, value) ∷ []))
-        ∙ later (find nat_cmp row level) (find nat_cmp row ((row, value) ∷ [])) (ap is_some (find-one row row value ∙ ap (λ b. cond b (Some value) None) (eq-eqb row row refl))))))
+    (ap is_some (find-both row (level ++ (row, value) ∷ []) popped)
+    ∙ sooner (find nat_cmp row (level ++ (row, value) ∷ [])) (find nat_cmp row popped)
+    (ap is_some (find-both row level ((row, value) ∷ []))
+    ∙ later (find nat_cmp row level) (find nat_cmp row ((row, value) ∷ [])) (ap is_some (find-one row row value ∙ ap (λ b. cond b (Some value) None) (eq-eqb row row refl))))))
   where
     later : (a b : Option (Option ℤ)) → is_some b ≡ true → is_some (or_else a b) ≡ true
     later (Some v) b h = refl

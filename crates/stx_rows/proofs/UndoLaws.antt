@@ -1,15 +1,13 @@
 -- An undo list and its levels.
-use Rattle.std.proofs.Common.{◌≡◌, ℕ, ℤ, zero, suc, ◌+◌, ◌-◌, ◌<◌, ◌≤◌, Bool, true, false, not, ◌&&◌, ◌==◌, cond, List, [], ◌∷◌, ◌++◌, Option, Some, None, length, take, drop, reverse, map, filter_map, slice_get, refl, sym, ap, ◌∙◌, subst, append-nil, append_assoc, length-append, length-take, arith, eq-eqb, ne_eqb, eqb-true}
-use Rattle.std.specs.Option.{option_map, option_to_list, unwrap_or, option_eq, is_some}
-use Rattle.std.specs.List.{cons_option}
-use Rattle.std.specs.Ordering.{nat_cmp, int_eq, eq_by_cmp}
+use Rattle.std.proofs.Common.{◌≡◌, ℕ, ℤ, zero, suc, ◌+◌, ◌<◌, ◌≤◌, Bool, true, false, ◌&&◌, ◌==◌, cond, List, [], ◌∷◌, ◌++◌, Option, Some, None, length, take, drop, reverse, refl, sym, ap, ◌∙◌, length-append, length-take, arith, eq-eqb, ne_eqb}
+use Rattle.std.specs.Option.{option_map, unwrap_or}
+use Rattle.std.specs.Ordering.{nat_cmp}
 use Rattle.std.specs.Cmp.{unsigned_tied}
 use Rattle.std.specs.BTreeMap.{BTreeMap, get as tree_get}
 use Rattle.std.specs.FinMap.{find}
-use Rattle.std.proofs.lemmas.Bool.{false≢true}
 use Rattle.std.proofs.lemmas.List.{take-append-drop, take-append-le, drop-append-le, reverse-append}
 use Rattle.stx_rows.specs.declared.undo.First.{First}
-use Rattle.stx_rows.specs.inner.Undoing.{Older, levels, levels_of, AreMarks, last_mark, noted, joined, flat, PopsLast, first_from, or_first, FirstsAre, stands_at, KeepsUndo}
+use Rattle.stx_rows.specs.inner.Undoing.{Older, levels, AreMarks, last_mark, noted, joined, flat, PopsLast, first_from, or_first, FirstsAre, stands_at}
 
 pub reverse-push : (xs : List ℕ) (x : ℕ) → reverse (xs ++ x ∷ []) ≡ x ∷ reverse xs
 reverse-push xs x = reverse-append xs (x ∷ [])

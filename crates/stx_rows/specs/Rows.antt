@@ -1,11 +1,12 @@
 -- The rows with their values, and of each live transaction the older values of what it has changed.
 use Rattle.std.specs.Prelude.{◌≡◌, ℕ, ℤ, ◌==◌, List, [], ◌∷◌, Option, Some, None, if◌then◌else◌}
 use Rattle.std.specs.List.{fold}
-use Rattle.std.specs.Ordering.{nat_cmp}
+use Rattle.std.specs.Option.{option_eq}
+use Rattle.std.specs.Ordering.{nat_cmp, int_eq}
 use Rattle.std.specs.Coded.{Coded, code_by, coded×, coded_ℕ, coded_ℤ, coded_list, coded_option}
 use Rattle.std.specs.FinMap as finite
 use Rattle.stx_scenario.specs.declared.numbers.RowNo.{RowNo}
-use Rattle.stx_base.specs.Alone.{RowMap, net}
+use Rattle.stx_base.specs.Alone.{RowMap}
 use Rattle.stx_journal.specs.Journal.{set_row}
 
 -- rows with what they held, a value or nothing
@@ -60,6 +61,10 @@ put_back_last rows (m ∷ below) = put_back rows m
 abbrev pub put_back_all : RowMap → List OlderMap → RowMap
 put_back_all rows [] = rows
 put_back_all rows (m ∷ below) = put_back_all (put_back rows m) below
+
+-- the change of one row, if its value differs
+abbrev pub change_to : Option ℤ → RowNo → Option ℤ → List (RowNo × Option ℤ)
+change_to before row now = if option_eq int_eq before now then [] else (row, now) ∷ []
 
 -- ---- of a transaction, where it lives
 

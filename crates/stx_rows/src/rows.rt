@@ -6,7 +6,7 @@ ghost use Rattle.std.specs.Ordering.{nat_cmp};
 ghost use Rattle.std.specs.FinMap as finite;
 ghost use Rattle.indexmap.specs.IndexMap.{get};
 ghost use Rattle.stx_base.specs.Alone.{first_rows, net};
-ghost use Rattle.stx_rows.specs.Rows.{kept_last, dropped, emptied, put_back_last, put_back_all, stack_of, SameValues, HasStack};
+ghost use Rattle.stx_rows.specs.Rows.{change_to, kept_last, dropped, emptied, put_back_last, put_back_all, stack_of, SameValues, HasStack};
 ghost use Rattle.stx_rows.specs.inner.Undoing.{value_of, flat, noted, joined, innermost_level, emptied_level, levels_in, HasPlaces};
 
 use crate::slots::{Slots, place, set, value_of};
@@ -75,13 +75,7 @@ impl Rows {
     }
 
     /// Sets a row, and keeps what it held where the last map of older values doesn't have the row yet.
-    pub fn write(
-        &mut self,
-        alloc: Global,
-        tx: u32,
-        row: RowNo,
-        value: i64,
-    ) -> Result<(), NoMemory>
+    pub fn write(&mut self, alloc: Global, tx: u32, row: RowNo, value: i64) -> Result<(), NoMemory>
         ensures values { OnOk result ((k : ℕ) → finite.get self.new.values k ≡ cond (k == row.0) (Some value) (finite.get self.old.values k)) }
         ensures older { OnOk result (HasStack self.old tx (option_map (kept_last row.0 (finite.get self.old.values row.0)) (finite.get self.old.older tx)) self.new) }
         ensures err { OnErr result (SameValues self.old self.new) }
@@ -98,6 +92,24 @@ impl Rows {
         ensures err_older { OnErr result (HasStack self.old tx (finite.get self.old.older tx) self.new) }
     {
         self.set(alloc, tx, row, None)
+    }
+
+    /// Sets or removes a row outside a transaction, and gives what that changes.
+    pub fn put(
+        &mut self,
+        alloc: Global,
+        row: RowNo,
+        value: Option<i64>,
+    ) -> Result<Changes, NoMemory>
+        ensures changes { IfOk result (λ changes. changes ≡ change_to (finite.get self.old.values row.0) row value) }
+        ensures values { OnOk result ((k : ℕ) → finite.get self.new.values k ≡ cond (k == row.0) value (finite.get self.old.values k)) }
+        ensures older { (t : ℕ) → finite.get self.new.older t ≡ finite.get self.old.older t }
+        ensures err { OnErr result (SameValues self.old self.new) }
+    {
+        place(&mut self.slots, row.0)?;
+        let changes = change_of(alloc, row, value_of(&self.slots, row.0), value)?;
+        set(&mut self.slots, row.0, value);
+        Ok(changes)
     }
 
     /// A row's value, if the row is there.
@@ -168,6 +180,22 @@ impl Rows {
         set(&mut self.slots, row.0, value);
         Ok(())
     }
+}
+
+/// A row's change, if its value differs.
+fn change_of(
+    alloc: Global,
+    row: RowNo,
+    before: Option<i64>,
+    now: Option<i64>,
+) -> Result<Changes, NoMemory>
+    ensures { IfOk result (λ changes. changes ≡ change_to before row now) }
+{
+    let mut changes = List::new(alloc);
+    if before != now {
+        changes.push((row, now))?;
+    }
+    Ok(changes)
 }
 
 /// The first values, each row with its place.

@@ -1,6 +1,5 @@
 -- One row of a map that is replayed is a cell that is replayed.
-use Rattle.std.proofs.Common.{◌≡◌, ℕ, ℤ, ◌+◌, ◌<◌, Bool, true, false, cond, List, [], ◌∷◌, Option, Some, None, length, map, fold, get_or, take, refl, sym, ap, ◌∙◌}
-use Rattle.std.specs.List.{cons_option}
+use Rattle.std.proofs.Common.{◌≡◌, ℕ, ℤ, cond, List, [], ◌∷◌, Option, Some, None, map, fold, refl, sym, ap, ◌∙◌}
 use Rattle.std.specs.Cmp.{unsigned_tied}
 use Rattle.std.specs.FinMap.{get, get-insert, get-remove}
 use Rattle.std.proofs.lemmas.Cmp.{nat_cmp_total}
@@ -11,9 +10,8 @@ use Rattle.stx_base.specs.declared.history.StoreNote.{StoreNote}
 use Rattle.stx_base.specs.declared.history.StoreEntry.{StoreEntry}
 use Rattle.stx_base.specs.Alone.{RowMap, Alone, row_of, applied, stepped, at_start, innermost, without_innermost, after, finds, found_or_absent}
 use Rattle.stx_base.specs.Histories.{store_notes}
-use Rattle.stx_base.specs.Stores.{work, is_busy, conflicts, smallest, committed_note, after_all, committed_rows, busy_or, access_answer, auto_answer}
-use Rattle.stx_base.proofs.RowLaws.{rows_so_far, rows_so_far-more}
-use Rattle.stx_store.specs.inner.Cells.{Cell, cell_applied, cell_stepped, cell_after, cell_committed, found_at}
+use Rattle.stx_base.specs.Stores.{work, conflicts, smallest, committed_rows, busy_or, access_answer, auto_answer}
+use Rattle.stx_store.specs.inner.Cells.{Cell, cell_applied, cell_stepped, cell_after, found_at}
 
 -- ---- one transaction's work
 
@@ -58,31 +56,6 @@ pub finds-at : (rows : RowMap) (a : Access) (k : ℕ) → k ≡ row_of a → fin
 finds-at rows (Access.Read row) k is = ap (λ j. found_or_absent (get rows j)) (sym is)
 finds-at rows (Access.Write row v) k is = refl
 finds-at rows (Access.Erase row) k is = refl
-
--- ---- the journal
-
-auto-at : (k c : ℕ) (b : Bool) (rows : RowMap) (a : Access) (n : StoreNote) → get (after rows (n ∷ [])) k ≡ cell_applied k (get rows k) a
-    → get (after_all rows (cons_option (cond b None (Some (record { client = c; tx = None; work = n ∷ [] }))) [])) k ≡ cond b (get rows k) (cell_applied k (get rows k) a)
-auto-at k c true rows a n h = refl
-auto-at k c false rows a n h = h
-
-committed-at : (k : ℕ) (notes : List StoreNote) (c : ℕ) (n : StoreNote) (rows : RowMap)
-    → get (after_all rows (cons_option (committed_note notes c n) [])) k ≡ cell_committed notes k (get rows k) n
-committed-at k notes c (StoreNote.Commit t m) rows = after-at k rows (work notes t)
-committed-at k notes c (StoreNote.Auto a r) rows = auto-at k c (is_busy r) rows a (StoreNote.Auto a r) (after-at k rows (StoreNote.Auto a r ∷ []))
-committed-at k notes c (StoreNote.Begin t) rows = refl
-committed-at k notes c (StoreNote.Access t a r) rows = refl
-committed-at k notes c (StoreNote.Point t) rows = refl
-committed-at k notes c (StoreNote.BackTo t) rows = refl
-committed-at k notes c (StoreNote.Release t) rows = refl
-committed-at k notes c (StoreNote.Rollback t) rows = refl
-
--- the turn of the loop at an entry
-pub value-more : (values : List ℤ) (notes : List StoreNote) (H : List StoreEntry) (k i : ℕ) (d : StoreEntry) → i < length H
-    → get (rows_so_far values notes (take (i + 1) H)) k ≡ cell_committed notes k (get (rows_so_far values notes (take i H)) k) (get_or H i d).note
-value-more values notes H k i d within =
-    ap (λ rows. get rows k) (rows_so_far-more values notes H i d within)
-    ∙ committed-at k notes (get_or H i d).client (get_or H i d).note (rows_so_far values notes (take i H))
 
 -- ---- answers
 

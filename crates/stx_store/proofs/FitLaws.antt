@@ -1,5 +1,5 @@
 -- Each call's entry fits after those before it, and the store keeps room for what it owes.
-use Rattle.std.proofs.Common.{◌≡◌, ℕ, ◌+◌, ◌^◌, ◌<◌, ◌≤◌, IsTrue, List, [], ◌∷◌, ◌++◌, Some, count_by, refl, sym, ap, ◌∙◌, subst, arith}
+use Rattle.std.proofs.Common.{◌≡◌, ℕ, ◌+◌, ◌^◌, ◌<◌, ◌≤◌, IsTrue, List, [], ◌∷◌, ◌++◌, Some, length, refl, sym, ap, ◌∙◌, subst, arith}
 use Rattle.stx_base.specs.declared.facts.StoreFacts.{StoreFacts}
 use Rattle.stx_base.specs.declared.call.Want.{Want}
 use Rattle.stx_base.specs.declared.history.Access.{Access}
@@ -7,14 +7,13 @@ use Rattle.stx_base.specs.declared.history.Answer.{Answer}
 use Rattle.stx_base.specs.declared.history.StoreNote.{StoreNote}
 use Rattle.stx_base.specs.declared.history.StoreEntry.{StoreEntry}
 use Rattle.stx_base.specs.Limits.{most_clients}
-use Rattle.stx_base.specs.Stores.{store_reply, access_answer, auto_answer}
+use Rattle.stx_base.specs.Histories.{store_notes}
+use Rattle.stx_base.specs.Stores.{begun, journal, store_reply, access_answer, auto_answer}
 use Rattle.stx_base.specs.Legal.{StoreFits, StoreLegal}
 use Rattle.stx_base.proofs.LegalLaws.{StoreLegal-push}
 use Rattle.stx_base.proofs.StoreLaws.{unnamed, few_begun}
 use Rattle.stx_store.specs.Store.{Store}
-use Rattle.stx_store.specs.inner.Counts.{is_begin, is_committed}
 use Rattle.stx_store.specs.inner.Owed.{more_owed, was_owed, owed_all, KeepsStore}
-use Rattle.stx_store.proofs.CountLaws.{count-begun, count-journal}
 use Rattle.stx_store.proofs.OwedLaws.{owed-more, owed-spent}
 
 -- ---- the fields of a store, and what contracts see of it
@@ -32,9 +31,9 @@ fits_inside facts H old e is fits = subst (λ s. StoreFits most_clients s.facts 
 
 -- ---- replies
 
-pub begin-reply : (facts : StoreFacts) (H : List StoreEntry) (u : ℕ) → u ≡ count_by (λ e. is_begin e.note) H + 1 → store_reply facts H Want.Begin ≡ Some (StoreNote.Begin u)
+pub begin-reply : (facts : StoreFacts) (H : List StoreEntry) (u : ℕ) → u ≡ length (begun (store_notes H)) + 1 → store_reply facts H Want.Begin ≡ Some (StoreNote.Begin u)
 unfolding store_reply
-begin-reply facts H u is = ap (λ m. Some (StoreNote.Begin m)) (ap (λ m. m + 1) (sym (count-begun H)) ∙ sym is)
+begin-reply facts H u is = ap (λ m. Some (StoreNote.Begin m)) (sym is)
 
 pub access-reply : (facts : StoreFacts) (H : List StoreEntry) (t : ℕ) (a : Access) (answer : Answer) → answer ≡ access_answer facts H t a → store_reply facts H (Want.Access t a) ≡ Some (StoreNote.Access t a answer)
 unfolding store_reply
@@ -44,9 +43,9 @@ pub auto-reply : (facts : StoreFacts) (H : List StoreEntry) (a : Access) (answer
 unfolding store_reply
 auto-reply facts H a answer is = ap (λ r. Some (StoreNote.Auto a r)) (sym is)
 
-pub commit-reply : (facts : StoreFacts) (H : List StoreEntry) (t m : ℕ) → m ≡ count_by (λ e. is_committed e.note) H + 1 → store_reply facts H (Want.Commit t) ≡ Some (StoreNote.Commit t m)
+pub commit-reply : (facts : StoreFacts) (H : List StoreEntry) (t m : ℕ) → m ≡ length (journal H) + 1 → store_reply facts H (Want.Commit t) ≡ Some (StoreNote.Commit t m)
 unfolding store_reply
-commit-reply facts H t m is = ap (λ k. Some (StoreNote.Commit t k)) (ap (λ k. k + 1) (sym (count-journal H)) ∙ sym is)
+commit-reply facts H t m is = ap (λ k. Some (StoreNote.Commit t k)) (sym is)
 
 pub rollback-reply : (facts : StoreFacts) (H : List StoreEntry) (t : ℕ) → store_reply facts H (Want.Rollback t) ≡ Some (StoreNote.Rollback t)
 unfolding store_reply
@@ -66,8 +65,8 @@ new-kept facts H len capacity none empty = record {
 }
 
 -- so few were begun that their numbers fit 32 bits
-pub few_begins : (facts : StoreFacts) (H : List StoreEntry) (owed len capacity : ℕ) → KeepsStore facts H owed len capacity → count_by (λ e. is_begin e.note) H + 1 < 2 ^ 32
-few_begins facts H owed len capacity kept = let few = few_begun 64 facts H kept.legal in let same = count-begun H in omega arith
+pub few_begins : (facts : StoreFacts) (H : List StoreEntry) (owed len capacity : ℕ) → KeepsStore facts H owed len capacity → length (begun (store_notes H)) + 1 < 2 ^ 32
+few_begins facts H owed len capacity kept = let few = few_begun 64 facts H kept.legal in omega arith
 
 owes_more : (facts : StoreFacts) (H : List StoreEntry) (e : StoreEntry) → StoreLegal most_clients facts H → StoreFits most_clients facts H e → owed_all (H ++ e ∷ []) ≤ owed_all H + more_owed e.note
 unfolding owed_all

@@ -1,7 +1,11 @@
-pub mod BlockLaws
 pub mod CellLaws
-pub mod BackLaws
 pub mod OwedLaws
-pub mod CountLaws
 pub mod FitLaws
 pub mod CallLaws
+pub mod KeepLaws
+pub mod OwnLaws
+pub mod JournalLaws
+pub mod StateLaws
+pub mod EndLaws
+pub mod ReplyLaws
+pub mod CoreLaws

@@ -1,11 +1,13 @@
 -- The store as contracts see it, and what a call that it answers leaves.
-use Rattle.std.specs.Prelude.{◌≡◌, ℕ, List, [], ◌∷◌, ◌++◌, Some}
+use Rattle.std.specs.Prelude.{◌≡◌, ℕ, ◌-◌, length, slice_get, Option, List, [], ◌∷◌, ◌++◌, Some}
 use Rattle.stx_base.specs.declared.facts.StoreFacts.{StoreFacts}
 use Rattle.stx_base.specs.declared.call.Want.{Want}
 use Rattle.stx_base.specs.declared.call.StoreCall.{StoreCall}
 use Rattle.stx_base.specs.declared.call.StoreAnswer.{StoreAnswer}
 use Rattle.stx_base.specs.declared.history.StoreNote.{StoreNote}
 use Rattle.stx_base.specs.declared.history.StoreEntry.{StoreEntry}
+use Rattle.stx_journal.specs.declared.committed.Committed.{Committed}
+use Rattle.stx_journal.specs.Journal.{committed_in}
 use Rattle.stx_base.specs.Notes.{store_call_want, store_note}
 use Rattle.stx_base.specs.Stores.{store_reply}
 
@@ -32,3 +34,7 @@ pub record StoreCallAnswered (old new : Store) (client : ℕ) (call : StoreCall)
   pub note : StoreNote
   pub made : store_note (store_call_want call) answer ≡ Some note
   pub replies : StoreReplies old new client (store_call_want call) note
+
+-- the last of what was committed, with what it changed
+abbrev pub last_committed : Store → Option Committed
+last_committed store = slice_get (committed_in store.facts.values store.entries) (length (committed_in store.facts.values store.entries) - 1)

@@ -1,5 +1,4 @@
 -- Words of this crate's own functions and invariants; no caller needs them.
 pub mod Cells
-pub mod Blocks
-pub mod Counts
 pub mod Owed
+pub mod Keeping

@@ -1,13 +1,9 @@
-//! The store: transactions over rows with locks and savepoints, each reply worked out from the first values and the
-//! entries. `specs/Store` says what contracts see of it.
+//! The store: transactions over rows with locks and savepoints, kept as a lock table, rows with undo lists and a journal.
+//! `specs/Store` says what contracts see of it.
 #![tactic(auto)]
 
-mod answers;
-mod counts;
-mod locks;
+mod access;
 mod room;
-mod rows;
 mod store;
 
-pub use rows::row_after;
 pub use store::StoreCore;

@@ -3,19 +3,20 @@ ghost use Rattle.std.specs.Prelude.{◌≡◌, ◌<◌, IfOk, OnOk, OnErr, IsTru
 ghost use Rattle.stx_base.specs.Limits.{most_clients};
 ghost use Rattle.stx_base.specs.Histories.{store_notes_of};
 ghost use Rattle.stx_base.specs.Stores.{store_proper};
-ghost use Rattle.stx_base.specs.Legal.{StoreFits};
 ghost use Rattle.stx_base.specs.Notes.{store_call_want, store_call_is_sure};
-ghost use Rattle.stx_store.specs.Store.{Store, StoreReplies, StoreCallAnswered, new_store, with_store_entry};
-ghost use Rattle.stx_store.specs.inner.Owed.{was_owed};
+ghost use Rattle.std.specs.Option.{option_copied};
+ghost use Rattle.stx_store.specs.Store.{Store, StoreReplies, StoreCallAnswered, new_store, with_store_entry, last_committed};
 
-use crate::answers::{access_answered, auto_answered};
-use crate::counts::{begins, commits};
-use crate::room::{room_added, room_for};
+use crate::access::{answer_at, make_access, put, row_named};
+use crate::room::room_for;
 use std::alloc::Global;
 use std::marker::Model;
 use stx_base::{
     Access, Answer, Session, StoreAnswer, StoreCall, StoreEntry, StoreFacts, StoreNote, Want,
 };
+use stx_journal::{Committed, Journal};
+use stx_locks::LockTable;
+use stx_rows::Rows;
 use stx_scenario::{List, NoMemory};
 
 /// A store of rows, seen as what it is made with and the entries of all calls so far.
@@ -29,18 +30,23 @@ pub struct StoreCore {
     entries: Vec<StoreEntry>,
     /// How many entries more there is room for: the ends of what has begun.
     owed: usize,
+    /// How many transactions were begun.
+    begun: u32,
+    locks: LockTable,
+    rows: Rows,
+    journal: Journal,
 }
 
 impl Model for StoreCore {
     ghost use Rattle.std.specs.Prelude.{vec_len, vec_capacity};
     ghost use Rattle.stx_store.specs.Store.{Store};
-    ghost use Rattle.stx_store.specs.inner.Owed.{KeepsStore};
+    ghost use Rattle.stx_store.specs.inner.Keeping.{KeepsAll};
 
     ghost Value = { Store };
 
     ghost view = { λ s. record { facts = s.facts; entries = s.entries.items } };
 
-    ghost invariant = { λ s. KeepsStore s.facts s.entries.items s.owed (vec_len s.entries) (vec_capacity s.entries) };
+    ghost invariant = { λ s. KeepsAll s.facts s.entries.items s.owed (vec_len s.entries) (vec_capacity s.entries) s.begun s.locks s.rows s.journal };
 }
 
 impl StoreCore {
@@ -48,6 +54,7 @@ impl StoreCore {
     pub fn new(alloc: Global, values: &List<i64>) -> Result<StoreCore, NoMemory>
         ensures { IfOk result (λ store. store ≡ new_store (record { values = values.now })) }
     {
+        let rows = Rows::new(alloc, values)?;
         let values = Vec::from_slice(alloc, values.as_slice())?;
         Ok(StoreCore {
             facts: StoreFacts {
@@ -55,25 +62,36 @@ impl StoreCore {
             },
             entries: Vec::new(alloc),
             owed: 0,
+            begun: 0,
+            locks: LockTable::new(alloc),
+            rows,
+            journal: Journal::new(alloc),
         })
     }
 
     /// Begins a transaction.
-    pub fn begin(&mut self, _alloc: Global, client: u32) -> Result<Session, NoMemory>
+    pub fn begin(&mut self, alloc: Global, client: u32) -> Result<Session, NoMemory>
         requires client { client < most_clients }
         requires proper { IsTrue (store_proper (store_notes_of self.old.entries client) Want.Begin) }
         ensures ok { IfOk result (λ session. StoreReplies self.old self.new client Want.Begin (StoreNote.Begin session)) }
         ensures err { OnErr result (self.new ≡ self.old) }
     {
-        let number = begins(&self.entries) as u32 + 1;
-        self.add(client, StoreNote::Begin(number))?;
+        let owed = room_for(&mut self.entries, &mut self.journal, self.owed, 1)?;
+        let number = self.begun + 1;
+        self.rows.begin(alloc, number)?;
+        self.begun = number;
+        self.owed = owed;
+        self.entries.push_reserved(StoreEntry {
+            client,
+            note: StoreNote::Begin(number),
+        });
         Ok(Session::issue(number))
     }
 
     /// Reads, writes or erases a row in a transaction, which holds the row from then on, unless another one holds it.
     pub fn access(
         &mut self,
-        _alloc: Global,
+        alloc: Global,
         client: u32,
         tx: u32,
         access: Access,
@@ -83,20 +101,30 @@ impl StoreCore {
         ensures ok { IfOk result (λ answer. StoreReplies self.old self.new client (Want.Access tx access) (StoreNote.Access tx access answer)) }
         ensures err { OnErr result (self.new ≡ self.old) }
     {
-        let answer = access_answered(&self.facts, &self.entries, tx, access);
-        self.add(client, StoreNote::Access { tx, access, answer })?;
+        self.owed = room_for(&mut self.entries, &mut self.journal, self.owed, 0)?;
+        let answer = make_access(&mut self.locks, &mut self.rows, alloc, tx, access)?;
+        self.entries.push_reserved(StoreEntry {
+            client,
+            note: StoreNote::Access { tx, access, answer },
+        });
         Ok(answer)
     }
 
     /// Opens a savepoint in a transaction.
     #[tactic(auto, unfolding(stx_base::specs::Stores::store_reply))]
-    pub fn point(&mut self, _alloc: Global, client: u32, tx: u32) -> Result<(), NoMemory>
+    pub fn point(&mut self, alloc: Global, client: u32, tx: u32) -> Result<(), NoMemory>
         requires client { client < most_clients }
         requires proper { IsTrue (store_proper (store_notes_of self.old.entries client) (Want.Point tx)) }
         ensures ok { OnOk result (StoreReplies self.old self.new client (Want.Point tx) (StoreNote.Point tx)) }
         ensures err { OnErr result (self.new ≡ self.old) }
     {
-        self.add(client, StoreNote::Point(tx))?;
+        let owed = room_for(&mut self.entries, &mut self.journal, self.owed, 2)?;
+        self.rows.point(alloc, tx)?;
+        self.owed = owed;
+        self.entries.push_reserved(StoreEntry {
+            client,
+            note: StoreNote::Point(tx),
+        });
         Ok(())
     }
 
@@ -107,7 +135,12 @@ impl StoreCore {
         requires proper { IsTrue (store_proper (store_notes_of self.old.entries client) (Want.BackTo tx)) }
         ensures { StoreReplies self.old self.new client (Want.BackTo tx) (StoreNote.BackTo tx) }
     {
-        self.spend(client, StoreNote::BackTo(tx));
+        self.rows.back_to(tx);
+        self.owed -= 1;
+        self.entries.push_reserved(StoreEntry {
+            client,
+            note: StoreNote::BackTo(tx),
+        });
     }
 
     /// Releases a transaction's innermost savepoint.
@@ -117,7 +150,12 @@ impl StoreCore {
         requires proper { IsTrue (store_proper (store_notes_of self.old.entries client) (Want.Release tx)) }
         ensures { StoreReplies self.old self.new client (Want.Release tx) (StoreNote.Release tx) }
     {
-        self.spend(client, StoreNote::Release(tx));
+        self.rows.forget(tx);
+        self.owed -= 1;
+        self.entries.push_reserved(StoreEntry {
+            client,
+            note: StoreNote::Release(tx),
+        });
     }
 
     /// Commits the transaction of a session, and gives its place in the journal, from 1.
@@ -128,8 +166,20 @@ impl StoreCore {
     {
         let tx = session.number();
         session.retire();
-        let number = commits(&self.entries) as u64 + 1;
-        self.spend(client, StoreNote::Commit { tx, number });
+        let number = self.journal.list().len() as u64 + 1;
+        let changes = self.rows.changes(tx);
+        self.locks.end(tx);
+        self.journal.append(Committed {
+            number,
+            client,
+            tx: Some(tx),
+            changes,
+        });
+        self.owed -= 1;
+        self.entries.push_reserved(StoreEntry {
+            client,
+            note: StoreNote::Commit { tx, number },
+        });
         number
     }
 
@@ -141,18 +191,45 @@ impl StoreCore {
     {
         let tx = session.number();
         session.retire();
-        self.spend(client, StoreNote::Rollback(tx));
+        self.rows.undo(tx);
+        self.locks.end(tx);
+        self.owed -= 1;
+        self.entries.push_reserved(StoreEntry {
+            client,
+            note: StoreNote::Rollback(tx),
+        });
     }
 
     /// Reads, writes or erases a row outside a transaction, which commits at once, unless a transaction holds the row.
-    pub fn auto(&mut self, _alloc: Global, client: u32, access: Access) -> Result<Answer, NoMemory>
+    pub fn auto(&mut self, alloc: Global, client: u32, access: Access) -> Result<Answer, NoMemory>
         requires client { client < most_clients }
         requires proper { IsTrue (store_proper (store_notes_of self.old.entries client) (Want.Auto access)) }
         ensures ok { IfOk result (λ answer. StoreReplies self.old self.new client (Want.Auto access) (StoreNote.Auto access answer)) }
         ensures err { OnErr result (self.new ≡ self.old) }
     {
-        let answer = auto_answered(&self.facts, &self.entries, access);
-        self.add(client, StoreNote::Auto { access, answer })?;
+        self.owed = room_for(&mut self.entries, &mut self.journal, self.owed, 0)?;
+        let row = row_named(access);
+        if let Some(other) = self.locks.holder(row) {
+            let answer = Answer::Busy(other);
+            self.entries.push_reserved(StoreEntry {
+                client,
+                note: StoreNote::Auto { access, answer },
+            });
+            return Ok(answer);
+        }
+        let answer = answer_at(access, self.rows.read(row));
+        let changes = put(&mut self.rows, alloc, access)?;
+        let number = self.journal.list().len() as u64 + 1;
+        self.journal.append(Committed {
+            number,
+            client,
+            tx: None,
+            changes,
+        });
+        self.entries.push_reserved(StoreEntry {
+            client,
+            note: StoreNote::Auto { access, answer },
+        });
         Ok(answer)
     }
 
@@ -213,28 +290,18 @@ impl StoreCore {
             facts: _,
             entries,
             owed: _,
+            begun: _,
+            locks: _,
+            rows: _,
+            journal: _,
         } = self;
         List::from_vec(entries)
     }
 
-    /// Keeps an entry, and room for what it makes the store owe.
-    fn add(&mut self, client: u32, note: StoreNote) -> Result<(), NoMemory>
-        requires { StoreFits most_clients self.old.facts self.old.entries (record { client = client; note = note }) }
-        ensures ok { OnOk result (self.new ≡ with_store_entry self.old client note) }
-        ensures err { OnErr result (self.new ≡ self.old) }
+    /// The last commit, with what it changed.
+    pub fn last_committed(&self) -> Option<&Committed>
+        ensures { option_copied result ≡ last_committed self.now }
     {
-        self.owed = room_for(&mut self.entries, self.owed, room_added(note))?;
-        self.entries.push_reserved(StoreEntry { client, note });
-        Ok(())
-    }
-
-    /// Keeps an entry that was owed.
-    fn spend(&mut self, client: u32, note: StoreNote)
-        requires fits { StoreFits most_clients self.old.facts self.old.entries (record { client = client; note = note }) }
-        requires owed { IsTrue (was_owed note) }
-        ensures { self.new ≡ with_store_entry self.old client note }
-    {
-        self.owed -= 1;
-        self.entries.push_reserved(StoreEntry { client, note });
+        self.journal.last()
     }
 }

@@ -1,6 +1,5 @@
 -- One value more.
-use Rattle.std.proofs.Common.{◌≡◌, ◌<◌, ap, ◌∙◌, arith}
-use Rattle.std.specs.Option.{option_copied}
+use Rattle.std.proofs.Common.{ap, ◌∙◌, arith}
 use Rattle.stx_journal.specs.Journal.{set_row}
 use Rattle.stx_journal.proofs.RowChanges.{first_rows-more}
 use Rattle.stx_journal.proofs.table.Table.of_values.Goals as goal

@@ -1,5 +1,5 @@
 -- One row of the table.
-use Rattle.std.proofs.Common.{rules, ◌≡◌, Some, None, sym, ap, ◌∙◌}
+use Rattle.std.proofs.Common.{rules, Some, None, sym, ap, ◌∙◌}
 use Rattle.stx_journal.specs.Journal.{set_row}
 use Rattle.stx_journal.proofs.RowChanges.{Updated, kept_set}
 use Rattle.stx_journal.proofs.table.Table.set.Goals as goal

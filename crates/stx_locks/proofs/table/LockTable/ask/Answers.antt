@@ -1,6 +1,5 @@
 -- A row that is held stays so, and one that is free is taken.
-use Rattle.std.proofs.Common.{◌≡◌, ◌==◌, ℕ, cond, Some, None, refl, sym, ap, ◌∙◌}
-use Rattle.std.specs.Bool.{nat_eq}
+use Rattle.std.proofs.Common.{◌==◌, cond, sym, ap, ◌∙◌}
 use Rattle.std.specs.FinMap.{get as holder_of}
 use Rattle.stx_locks.specs.Locks.{asked, after_asked}
 use Rattle.stx_locks.specs.inner.Taken.{holders_in}
@@ -27,5 +26,5 @@ pub returns-clause-ok : goal.returns-clause-ok
 returns-clause-ok c k =
     locked-at c.self.inside.locks.entries c.insert.new.self.entries c.args.row.0 c.args.tx k (sym c.in_default.ensures) (c.in_ok-insert.ensures.updates.0 k)
     ∙ taken_free (holders_in c.self.inside.locks.entries) c.args.row.0 k c.args.tx
-      (holder-at c.self.inside.locks.entries c.args.row.0 ∙ ap holder_in (sym c.in_default.ensures))
+    (holder-at c.self.inside.locks.entries c.args.row.0 ∙ ap holder_in (sym c.in_default.ensures))
     ∙ ap (λ m. cond (k == c.args.row.0) (after_asked (holder_of m k) c.args.tx) (holder_of m k)) c.self.view_is

@@ -1,5 +1,5 @@
 -- All that the transaction holds is listed, and freed.
-use Rattle.std.proofs.Common.{◌≡◌, refl, sym, ap, ◌∙◌, subst, None, cond, ◌&&◌, ℕ}
+use Rattle.std.proofs.Common.{ap, ◌∙◌, None, cond, ◌&&◌}
 use Rattle.std.specs.Bool.{nat_eq}
 use Rattle.std.specs.List.{list_any}
 use Rattle.std.specs.Map.{lookup}

@@ -1,5 +1,5 @@
 -- One row is freed.
-use Rattle.std.proofs.Common.{◌≡◌, cond, None, refl, sym, ap, ◌∙◌}
+use Rattle.std.proofs.Common.{cond, None, refl, ap, ◌∙◌}
 use Rattle.std.specs.Bool.{nat_eq}
 use Rattle.std.specs.FinMap.{get as holder_of}
 use Rattle.std.proofs.lemmas.Cmp.{nat_eq_equiv}

@@ -1,5 +1,5 @@
 -- Who holds a row is what the look-up finds.
-use Rattle.std.proofs.Common.{◌≡◌, sym, ap, ◌∙◌}
+use Rattle.std.proofs.Common.{sym, ap, ◌∙◌}
 use Rattle.std.specs.FinMap.{get as holder_of}
 use Rattle.stx_locks.proofs.TableLaws.{holder_in, holder-at}
 use Rattle.stx_locks.proofs.table.LockTable.holder.Goals as goal

@@ -1,5 +1,5 @@
 -- Nothing is held at first.
-use Rattle.std.proofs.Common.{◌≡◌, ap, ◌∙◌}
+use Rattle.std.proofs.Common.{ap, ◌∙◌}
 use Rattle.std.specs.Bool.{nat_eq}
 use Rattle.std.specs.Map.{lookup}
 use Rattle.stx_locks.proofs.TableLaws.{holder_in, holder-at}

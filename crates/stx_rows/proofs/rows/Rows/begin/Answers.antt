@@ -1,15 +1,7 @@
 -- One empty level.
-use Rattle.std.proofs.Common.{◌≡◌, ℕ, ◌==◌, true, cond, List, [], ◌∷◌, Option, Some, None, map, refl, sym, ap, ◌∙◌, subst}
-use Rattle.std.specs.Bool.{nat_eq}
-use Rattle.std.specs.Option.{option_map, unwrap_or, is_some, IsSome}
-use Rattle.std.specs.Ordering.{nat_cmp}
-use Rattle.std.specs.Map.{lookup}
-use Rattle.std.specs.FinMap.{get, find, from_entries, empty}
-use Rattle.std.proofs.lemmas.Bool.{false≢true}
-use Rattle.stx_base.specs.Alone.{net}
-use Rattle.stx_rows.specs.Rows.{RowsView, kept_last, dropped, emptied, put_back_last, put_back_all, stack_of, some_stack}
-use Rattle.stx_rows.specs.inner.Undoing.{Older, value_of, slot_map, stack_map, levels_in, flat, noted, joined, innermost_level, emptied_level, HasPlaces}
-use Rattle.stx_rows.proofs.RowsLaws.{values-at, older-at, stack_of-at, stack_in, edited-by, edited-stack, edited-places, same-stack, same-places, places-opened, places-noted, places-joined, places-emptied, stack-opened, stack-noted, stack-joined, stack-emptied, put_back_last-at, put_back_all-at, extended, extended-popped, put_one, popped-placed, placed-more, on_err}
+use Rattle.std.proofs.Common.{◌==◌, cond, [], ◌∷◌, Some, map, ap, ◌∙◌}
+use Rattle.std.specs.FinMap.{get, from_entries, empty}
+use Rattle.stx_rows.proofs.RowsLaws.{edited-by, edited-stack}
 use Rattle.stx_rows.proofs.rows.Rows.begin.Goals as goal
 
 pub returns-clause-ok : goal.returns-clause-ok

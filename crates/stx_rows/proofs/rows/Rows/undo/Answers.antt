@@ -1,15 +1,13 @@
 -- All older values are put back.
-use Rattle.std.proofs.Common.{◌≡◌, ℕ, ◌==◌, true, cond, List, [], ◌∷◌, Option, Some, None, map, refl, sym, ap, ◌∙◌, subst}
+use Rattle.std.proofs.Common.{◌≡◌, ◌==◌, cond, None, map, refl, sym, ap, ◌∙◌}
 use Rattle.std.specs.Bool.{nat_eq}
-use Rattle.std.specs.Option.{option_map, unwrap_or, is_some, IsSome}
+use Rattle.std.specs.Option.{unwrap_or, is_some}
 use Rattle.std.specs.Ordering.{nat_cmp}
 use Rattle.std.specs.Map.{lookup}
-use Rattle.std.specs.FinMap.{get, find, from_entries, empty}
-use Rattle.std.proofs.lemmas.Bool.{false≢true}
-use Rattle.stx_base.specs.Alone.{net}
-use Rattle.stx_rows.specs.Rows.{RowsView, kept_last, dropped, emptied, put_back_last, put_back_all, stack_of, some_stack}
-use Rattle.stx_rows.specs.inner.Undoing.{Older, value_of, slot_map, stack_map, levels_in, flat, noted, joined, innermost_level, emptied_level, HasPlaces}
-use Rattle.stx_rows.proofs.RowsLaws.{values-at, older-at, stack_of-at, stack_in, edited-by, edited-stack, edited-places, same-stack, same-places, places-opened, places-noted, places-joined, places-emptied, stack-opened, stack-noted, stack-joined, stack-emptied, put_back_last-at, put_back_all-at, extended, extended-popped, put_one, popped-placed, placed-more, on_err}
+use Rattle.std.specs.FinMap.{get, find, from_entries}
+use Rattle.stx_rows.specs.Rows.{put_back_all, stack_of}
+use Rattle.stx_rows.specs.inner.Undoing.{value_of, slot_map, levels_in, flat, innermost_level}
+use Rattle.stx_rows.proofs.RowsLaws.{values-at, stack_of-at, edited-by, edited-stack, put_back_all-at}
 use Rattle.stx_rows.proofs.rows.Rows.undo.Goals as goal
 
 pub put_back-requires : goal.put_back-requires

@@ -1,5 +1,5 @@
 -- The changes are made in order, each row's once.
-use Rattle.std.proofs.Common.{rules, ◌≡◌, ◌<◌, ◌++◌, ◌∷◌, ℕ, [], List, Option, Some, None, length, map, filter_map, reverse, refl, sym, ap, ◌∙◌, subst, arith, length-append}
+use Rattle.std.proofs.Common.{rules, ◌≡◌, ◌++◌, ◌∷◌, ℕ, [], List, Option, Some, None, length, map, filter_map, reverse, refl, sym, ap, ◌∙◌, subst, arith, length-append}
 use Rattle.std.specs.Option.{option_to_list}
 use Rattle.std.specs.List.{cons_option}
 use Rattle.std.specs.Map.Iter.{deref_pair}
@@ -42,7 +42,7 @@ pub push_change-requires : goal.push_change-requires
 push_change-requires c =
     let gives = c.into_iter-row-iterator.ensures.into_iter_gives in
     let turn = btree_map_turn deref_pair c.loop-row.yielded c.into_iter-row-iterator.result c.loop-row.row-iterator c.next.new.self c.next.result (c.in-Some.row, c.in-Some.had)
-        c.loop-row.yielded_by c.in-Some.is c.next.ensures.steps nat_cmp_total c.self.inside.first gives.0 gives.5 in
+    c.loop-row.yielded_by c.in-Some.is c.next.ensures.steps nat_cmp_total c.self.inside.first gives.0 gives.5 in
     omega (arith, turn.0, c.loop-row.invariant.few, c.loop-row.invariant.room)
 
 pub loop-row-preserved : goal.loop-row-preserved

@@ -1,5 +1,5 @@
 -- All levels are one.
-use Rattle.std.proofs.Common.{◌≡◌, ◌∷◌, [], reverse, sym, ap, ◌∙◌}
+use Rattle.std.proofs.Common.{◌∷◌, [], reverse, sym, ap, ◌∙◌}
 use Rattle.stx_rows.specs.inner.Undoing.{levels_of, flat}
 use Rattle.stx_rows.proofs.UndoLaws.{flat-levels}
 use Rattle.stx_rows.proofs.undo.Undo.forget_all.Goals as goal

@@ -1,5 +1,5 @@
 -- One entry more.
-use Rattle.std.proofs.Common.{◌≡◌, ◌∷◌, ◌++◌, [], length, reverse, refl, sym, ap, ◌∙◌, subst, arith, length-append}
+use Rattle.std.proofs.Common.{◌≡◌, ◌∷◌, ◌++◌, [], length, reverse, sym, ap, ◌∙◌, subst, arith, length-append}
 use Rattle.stx_rows.specs.inner.Undoing.{AreMarks, FirstsAre, levels_of, noted}
 use Rattle.stx_rows.proofs.UndoLaws.{levels-noted, marks-later, firsts-more}
 use Rattle.stx_rows.proofs.undo.Undo.note.Goals as goal
@@ -11,10 +11,10 @@ invariant_of-self-2 c =
     record {
       marked = subst (λ es. AreMarks (length es) (reverse c.self.inside.marks.items)) (sym same)
           (marks-later (length c.self.inside.older.items) (length (c.self.inside.older.items ++ (c.args.row, c.args.value) ∷ [])) (reverse c.self.inside.marks.items)
-            (omega (arith, length-append c.self.inside.older.items ((c.args.row, c.args.value) ∷ []))) c.self.invariant.marked);
+          (omega (arith, length-append c.self.inside.older.items ((c.args.row, c.args.value) ∷ []))) c.self.invariant.marked);
       firsts = subst (FirstsAre c.note_first.new.first) (sym same)
           (firsts-more c.self.inside.first c.note_first.new.first c.self.inside.older.items c.args.row c.args.value (record { place = c.len.result; value = c.args.value })
-            c.self.invariant.firsts (ap (λ p. record { place = p; value = c.args.value }) place) c.in_ok-note_first.ensures.ok);
+          c.self.invariant.firsts (ap (λ p. record { place = p; value = c.args.value }) place) c.in_ok-note_first.ensures.ok);
       none = c.note_first.ensures.none ∙ c.self.invariant.none;
       fits = c.note_first.ensures.room c.self.invariant.none c.self.invariant.fits;
     }

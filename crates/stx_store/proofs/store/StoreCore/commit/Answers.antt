@@ -1,23 +1,38 @@
-use Rattle.std.proofs.Common.{◌+◌, count_by, sym, ap, ◌∙◌, subst}
+-- The changes are listed, and the locks freed.
+use Rattle.std.proofs.Common.{◌+◌, ◌≤◌, IsTrue, length, refl, sym, ap, subst, arith}
+use Rattle.stx_base.specs.declared.call.Want.{Want}
 use Rattle.stx_base.specs.declared.history.StoreNote.{StoreNote}
-use Rattle.stx_base.specs.Limits.{most_clients}
-use Rattle.stx_base.specs.Legal.{StoreFits}
-use Rattle.stx_store.specs.Store.{with_store_entry}
-use Rattle.stx_store.specs.inner.Counts.{is_committed}
+use Rattle.stx_base.specs.Histories.{store_notes_of}
+use Rattle.stx_base.specs.Stores.{store_proper}
+use Rattle.stx_store.specs.Store.{StoreReplies}
 use Rattle.stx_store.proofs.OwedLaws.{entry}
-use Rattle.stx_store.proofs.FitLaws.{commit-reply, seen}
+use Rattle.stx_store.proofs.FitLaws.{store_of}
+use Rattle.stx_store.proofs.CoreLaws.{proper_in, replies, fits-commit, stack_there, owed-one, core-committed}
 use Rattle.stx_store.proofs.store.StoreCore.commit.Goals as goal
 
-pub spend-requires-clause-fits : goal.spend-requires-clause-fits
-spend-requires-clause-fits c =
-    let counted = seen (λ facts es. count_by (λ e. is_committed e.note) es) c.self.inside.facts c.self.inside.entries.items _ _ _ c.self.view_is c.deref.ensures.value c.commits.ensures in
-    subst (λ t. StoreFits most_clients c.args.self.now.facts c.args.self.now.entries (entry c.args.client (StoreNote.Commit t (c.commits.result + 1)))) (sym c.number-tx.ensures)
-    (record { client = c.requires.client; proper = c.requires.proper; reply = commit-reply _ _ _ _ (ap (λ m. m + 1) counted) })
+pub changes-changes-requires : goal.changes-changes-requires
+changes-changes-requires c = stack_there c.self.inside.facts c.self.inside.entries.items c.self.inside.owed _ _ c.self.inside.begun c.self.inside.locks c.self.inside.rows c.self.inside.journal c.self.invariant c.args.client c.number-tx.result 0 (subst (λ t. IsTrue (store_proper (store_notes_of c.self.inside.entries.items c.args.client) (Want.Commit t))) (sym c.number-tx.ensures) (proper_in c.self.inside.facts c.self.inside.entries.items _ c.args.client (Want.Commit c.args.session) c.self.view_is c.requires.proper))
+
+pub append-requires : goal.append-requires
+append-requires c =
+    let one : 1 ≤ c.self.inside.owed = owed-one c.self.inside.facts c.self.inside.entries.items c.self.inside.owed _ _ c.self.inside.begun c.self.inside.locks c.self.inside.rows c.self.inside.journal c.self.invariant (entry c.args.client (StoreNote.Commit c.number-tx.result (length c.list.result.now + 1))) (fits-commit c.self.inside.facts c.self.inside.entries.items c.self.inside.owed _ _ c.self.inside.begun c.self.inside.locks c.self.inside.rows c.self.inside.journal c.self.invariant c.args.client c.number-tx.result (length c.list.result.now + 1) c.requires.client (subst (λ t. IsTrue (store_proper (store_notes_of c.self.inside.entries.items c.args.client) (Want.Commit t))) (sym c.number-tx.ensures) (proper_in c.self.inside.facts c.self.inside.entries.items _ c.args.client (Want.Commit c.args.session) c.self.view_is c.requires.proper)) (ap (λ l. length l + 1) c.list.ensures)) refl in
+    omega (arith, c.self.invariant.state.room)
+
+pub overflow_sub-self : goal.overflow_sub-self
+overflow_sub-self c = owed-one c.self.inside.facts c.self.inside.entries.items c.self.inside.owed _ _ c.self.inside.begun c.self.inside.locks c.self.inside.rows c.self.inside.journal c.self.invariant (entry c.args.client (StoreNote.Commit c.number-tx.result (length c.list.result.now + 1))) (fits-commit c.self.inside.facts c.self.inside.entries.items c.self.inside.owed _ _ c.self.inside.begun c.self.inside.locks c.self.inside.rows c.self.inside.journal c.self.invariant c.args.client c.number-tx.result (length c.list.result.now + 1) c.requires.client (subst (λ t. IsTrue (store_proper (store_notes_of c.self.inside.entries.items c.args.client) (Want.Commit t))) (sym c.number-tx.ensures) (proper_in c.self.inside.facts c.self.inside.entries.items _ c.args.client (Want.Commit c.args.session) c.self.view_is c.requires.proper)) (ap (λ l. length l + 1) c.list.ensures)) refl
+
+pub push_reserved-requires : goal.push_reserved-requires
+push_reserved-requires c =
+    let one : 1 ≤ c.self.inside.owed = owed-one c.self.inside.facts c.self.inside.entries.items c.self.inside.owed _ _ c.self.inside.begun c.self.inside.locks c.self.inside.rows c.self.inside.journal c.self.invariant (entry c.args.client (StoreNote.Commit c.number-tx.result (length c.list.result.now + 1))) (fits-commit c.self.inside.facts c.self.inside.entries.items c.self.inside.owed _ _ c.self.inside.begun c.self.inside.locks c.self.inside.rows c.self.inside.journal c.self.invariant c.args.client c.number-tx.result (length c.list.result.now + 1) c.requires.client (subst (λ t. IsTrue (store_proper (store_notes_of c.self.inside.entries.items c.args.client) (Want.Commit t))) (sym c.number-tx.ensures) (proper_in c.self.inside.facts c.self.inside.entries.items _ c.args.client (Want.Commit c.args.session) c.self.view_is c.requires.proper)) (ap (λ l. length l + 1) c.list.ensures)) refl in
+    omega (arith, c.self.invariant.entries.room)
+
+pub invariant_of-self : goal.invariant_of-self
+invariant_of-self c =
+    core-committed c.self.inside.facts c.self.inside.entries.items c.self.inside.owed _ _ c.self.inside.begun c.self.inside.locks c.self.inside.rows c.self.inside.journal c.self.invariant c.args.client c.number-tx.result (length c.list.result.now + 1) c.changes-changes.result (fits-commit c.self.inside.facts c.self.inside.entries.items c.self.inside.owed _ _ c.self.inside.begun c.self.inside.locks c.self.inside.rows c.self.inside.journal c.self.invariant c.args.client c.number-tx.result (length c.list.result.now + 1) c.requires.client (subst (λ t. IsTrue (store_proper (store_notes_of c.self.inside.entries.items c.args.client) (Want.Commit t))) (sym c.number-tx.ensures) (proper_in c.self.inside.facts c.self.inside.entries.items _ c.args.client (Want.Commit c.args.session) c.self.view_is c.requires.proper)) (ap (λ l. length l + 1) c.list.ensures)) _ _ _ c.end.new.self c.changes-changes.new.self c.append.new.self
+    c.push_reserved.ensures.items c.push_reserved.ensures.len c.push_reserved.ensures.capacity c.end.ensures c.changes-changes.ensures.values c.changes-changes.ensures.older (ap (λ l. length l + 1) c.list.ensures) c.changes-changes.ensures.changes
+    c.append.ensures.list c.append.ensures.spare
 
 pub returns : goal.returns
 returns c =
-    let counted = seen (λ facts es. count_by (λ e. is_committed e.note) es) c.self.inside.facts c.self.inside.entries.items _ _ _ c.self.view_is c.deref.ensures.value c.commits.ensures in
-    record {
-      reply = commit-reply _ _ _ _ (ap (λ m. m + 1) counted);
-      kept = c.spend.ensures ∙ ap (λ t. with_store_entry c.args.self.now c.args.client (StoreNote.Commit t (c.commits.result + 1))) c.number-tx.ensures;
-    }
+    subst (λ t. StoreReplies c.args.self.now (store_of c.self.inside.facts c.push_reserved.new.self.items) c.args.client (Want.Commit t) (StoreNote.Commit t (length c.list.result.now + 1))) c.number-tx.ensures
+    (replies c.self.inside.facts c.self.inside.entries.items c.push_reserved.new.self.items _ c.args.client (StoreNote.Commit c.number-tx.result (length c.list.result.now + 1)) c.self.view_is (fits-commit c.self.inside.facts c.self.inside.entries.items c.self.inside.owed _ _ c.self.inside.begun c.self.inside.locks c.self.inside.rows c.self.inside.journal c.self.invariant c.args.client c.number-tx.result (length c.list.result.now + 1) c.requires.client (subst (λ t. IsTrue (store_proper (store_notes_of c.self.inside.entries.items c.args.client) (Want.Commit t))) (sym c.number-tx.ensures) (proper_in c.self.inside.facts c.self.inside.entries.items _ c.args.client (Want.Commit c.args.session) c.self.view_is c.requires.proper)) (ap (λ l. length l + 1) c.list.ensures)) c.push_reserved.ensures.items)
