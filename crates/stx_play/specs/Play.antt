@@ -1,7 +1,9 @@
 -- A play as contracts see it, and what turns make of it.
-use Rattle.std.specs.Prelude.{◌≡◌, ℕ, ◌<◌, Bool, false, length, Some}
+use Rattle.std.specs.Prelude.{◌≡◌, ℕ, ◌<◌, Bool, false, length, slice_get, Option, Some}
 use Rattle.stx_scenario.specs.declared.scenario.Scenario.{Scenario}
 use Rattle.stx_base.specs.declared.call.Want.{Want}
+use Rattle.stx_journal.specs.declared.committed.Committed.{Committed}
+use Rattle.stx_journal.specs.Journal.{committed_in}
 use Rattle.stx_model.specs.Played.{Turns, no_turns, turn, want_so_far}
 
 -- the histories so far, and whether memory has run out: then it can only be dropped
@@ -18,6 +20,10 @@ with_turn play c = record { scenario = play.scenario; so_far = turn play.scenari
 
 abbrev pub with_turns : PlayView → Turns → PlayView
 with_turns play so_far = record { scenario = play.scenario; so_far = so_far; failed = play.failed }
+
+-- the commit that the store has gained since, if it has one
+abbrev pub newly_committed : PlayView → PlayView → Option Committed
+newly_committed old new = slice_get (committed_in old.scenario.values new.so_far.store) (length (committed_in old.scenario.values old.so_far.store))
 
 abbrev pub IsClientDone : Scenario → Turns → ℕ → Type 0
 IsClientDone S so_far c = want_so_far S so_far c ≡ Some Want.Done
