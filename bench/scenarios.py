@@ -4,6 +4,8 @@
   clients N BODY   N clients with N calls each of methods whose bodies have BODY statements
   reading          a valid file of nearly the greatest size: 10,000 rows and 1,000 methods within 1,048,576 bytes
   rules            1,000 methods with an attribute over nearly 1,000 classes: about a million lines of `--do rules`
+  calls DEPTH N    one client with N calls of an empty method that joins, and as many of one that runs without a transaction,
+                   each under DEPTH calls that are open; three of a thousand make a shared call
 """
 import random
 import sys
@@ -54,6 +56,30 @@ def rules():
     print('clients = [{calls=["b.m0"]}]')
 
 
+def calls(depth, count):
+    """Each leaf is called from `batch`, 125 times in turn; `work` calls `batch`, and a chain of joined calls leads to it."""
+    def method(name, body, propagation="required"):
+        statements = ",".join(f'"{statement}"' for statement in body)
+        print(f'{{bean="b",name="{name}",tx={{propagation="{propagation}"}},body=[{statements}]}},')
+
+    pairs = 125
+    batches, rest = divmod(count, pairs)
+    print('beans = [{name="b"}]\nmethods = [')
+    method("joined", [])
+    method("empty", [], "not_supported")
+    method("batch", ["call b.joined", "call b.empty"] * pairs)
+    method("rest", ["call b.joined", "call b.empty"] * rest)
+    works = [min(256, batches - start) for start in range(0, batches, 256)]
+    for place, size in enumerate(works):
+        method(f"work{place}", ["call b.batch"] * size)
+    chain = depth - 2
+    inner = [f"call b.work{place}" for place in range(len(works))] + ["call b.rest"]
+    for place in range(chain):
+        method(f"chain{place}", [f"call b.chain{place + 1}"] if place < chain - 1 else inner)
+    tops = ["b.chain0"] if chain > 0 else [call.removeprefix("call ") for call in inner]
+    print("]\nclients = [{calls=[" + ",".join(f'"{top}"' for top in tops) + "]}]")
+
+
 if __name__ == "__main__":
     kind, *numbers = sys.argv[1:]
-    {"clients": clients, "reading": reading, "rules": rules}[kind](*map(int, numbers))
+    {"clients": clients, "reading": reading, "rules": rules, "calls": calls}[kind](*map(int, numbers))
