@@ -1,27 +1,22 @@
 // The forms that aren't played yet.
 ghost use Rattle.std.specs.Prelude.{◌≡◌, ◌<◌, IfOk, IfSome, length, slice_get, Some, None};
-ghost use Rattle.std.specs.Option.{option_and_then, option_or, is_some};
-ghost use Rattle.stx_base.specs.Attributes.{bean_attribute};
-ghost use Rattle.stx_model.specs.Built.{is_built as built_test, is_always as always_test, is_required as required_test};
-ghost use Rattle.springtx.specs.NotYet.{not_yet as first_not_yet, bean_not_yet as bean_place, method_not_yet as method_place, tx_not_yet as tx_place, statement_not_yet as statement_place, first_from, has_attribute as attribute_test, not_yet_text as text_of};
+ghost use Rattle.std.specs.Option.{option_or};
+ghost use Rattle.stx_model.specs.Built.{is_built as built_test, is_nested as nested_test};
+ghost use Rattle.springtx.specs.NotYet.{not_yet as first_not_yet, bean_not_yet as bean_place, method_not_yet as method_place, tx_not_yet as tx_place, statement_not_yet as statement_place, first_from, not_yet_text as text_of};
 
 use std::alloc::Global;
 use stx_refusals::{Argument, entry, under};
-use stx_scenario::{Bean, Method, NoMemory, Propagation, Scenario, Stmt, SyncMode, TxAttr};
+use stx_scenario::{Bean, Method, NoMemory, Propagation, Scenario, Stmt, TxAttr};
 
 /// The first place, in walk order, of a form that isn't played yet.
 #[tactic(auto, unfolding(crate::specs::NotYet::not_yet))]
 pub fn not_yet(alloc: Global, scenario: &Scenario) -> Result<Option<Argument>, NoMemory>
     ensures { IfOk result (λ path. path ≡ first_not_yet scenario.now) }
 {
-    if !is_always(scenario.settings.mode) {
-        let path = String::from_str(alloc, "settings.sync")?;
-        return Ok(Some(Argument::from_text(path)));
-    }
     if let Some(path) = beans_not_yet(alloc, scenario.beans.as_slice())? {
         return Ok(Some(path));
     }
-    methods_not_yet(alloc, scenario)
+    methods_not_yet(alloc, scenario.methods.as_slice())
 }
 
 fn beans_not_yet(alloc: Global, beans: &[Bean]) -> Result<Option<Argument>, NoMemory>
@@ -36,29 +31,21 @@ fn beans_not_yet(alloc: Global, beans: &[Bean]) -> Result<Option<Argument>, NoMe
     Ok(None)
 }
 
-fn methods_not_yet(alloc: Global, scenario: &Scenario) -> Result<Option<Argument>, NoMemory>
-    ensures { IfOk result (λ path. path ≡ first_from (method_place scenario.now) 0 scenario.now.methods) }
+fn methods_not_yet(alloc: Global, methods: &[Method]) -> Result<Option<Argument>, NoMemory>
+    ensures { IfOk result (λ path. path ≡ first_from method_place 0 methods.now) }
 {
-    for (at, method) in scenario.methods.as_slice().iter().enumerate() {
-        if let Some(place) = method_not_yet(alloc, scenario, at, method)? {
+    for (at, method) in methods.iter().enumerate() {
+        if let Some(place) = method_not_yet(alloc, at, method)? {
             return Ok(Some(place));
         }
     }
     Ok(None)
 }
 
-fn method_not_yet(
-    alloc: Global,
-    scenario: &Scenario,
-    at: usize,
-    method: &Method,
-) -> Result<Option<Argument>, NoMemory>
-    ensures { IfOk result (λ path. path ≡ method_place scenario.now at method.now) }
+fn method_not_yet(alloc: Global, at: usize, method: &Method) -> Result<Option<Argument>, NoMemory>
+    ensures { IfOk result (λ path. path ≡ method_place at method.now) }
 {
     let path = entry(alloc, "methods", at)?;
-    if !has_attribute(scenario, method) {
-        return Ok(Some(under(alloc, path.as_str(), "tx")?));
-    }
     if let Some(place) = tx_not_yet(alloc, path.as_str(), &method.tx)? {
         return Ok(Some(place));
     }
@@ -81,7 +68,7 @@ fn tx_not_yet(alloc: Global, path: &str, tx: &Option<TxAttr>) -> Result<Option<A
     ensures { IfOk result (λ place. place ≡ tx_place path.now tx.now) }
 {
     match tx {
-        Some(tx) if !is_required(tx.propagation) => {
+        Some(tx) if is_nested(tx.propagation) => {
             let inner = under(alloc, path, "tx")?;
             Ok(Some(under(alloc, inner.as_str(), "propagation")?))
         }
@@ -89,40 +76,17 @@ fn tx_not_yet(alloc: Global, path: &str, tx: &Option<TxAttr>) -> Result<Option<A
     }
 }
 
-/// Whether a method has an attribute, its own or its bean's.
-fn has_attribute(scenario: &Scenario, method: &Method) -> bool
-    ensures { result ≡ attribute_test scenario.now method.now }
+fn is_nested(propagation: Propagation) -> bool
+    ensures { result ≡ nested_test propagation }
 {
-    if method.tx.is_some() {
-        return true;
-    }
-    match scenario.beans.get(method.bean.0 as usize) {
-        Some(bean) => bean.tx.is_some(),
-        None => false,
-    }
-}
-
-fn is_always(mode: SyncMode) -> bool
-    ensures { result ≡ always_test mode }
-{
-    mode == SyncMode::Always
-}
-
-fn is_required(propagation: Propagation) -> bool
-    ensures { result ≡ required_test propagation }
-{
-    propagation == Propagation::Required
+    propagation == Propagation::Nested
 }
 
 /// Whether a statement of a method is played so far.
 fn is_built(statement: &Stmt) -> bool
     ensures { result ≡ built_test statement.now }
 {
-    match statement {
-        Stmt::Read(_) | Stmt::Write(_, _) | Stmt::Erase(_) => true,
-        Stmt::Add(_, _) | Stmt::Need(_, _) | Stmt::Throw(_) => true,
-        _ => false,
-    }
+    !matches!(statement, Stmt::Register(_) | Stmt::Publish(_))
 }
 
 /// The text of a refusal for want of a form that is built.

@@ -1,4 +1,2 @@
 -- Words of this crate's own functions and invariants; no caller needs them.
-pub mod Machine
-pub mod Holding
 pub mod Keeps

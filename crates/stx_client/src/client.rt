@@ -1,25 +1,21 @@
 // A client: what it wants of the pool and the store, and the lines that it has said.
-ghost use Rattle.std.specs.Prelude.{◌≡◌, ◌≢◌, ◌<◌, ◌≤◌, ◌↔◌, ◌⊎◌, length, false, Some, None, IfOk, OnOk, OnErr, IsTrue};
+ghost use Rattle.std.specs.Prelude.{◌≡◌, ◌≢◌, ◌<◌, ◌↔◌, length, false, [], Some, None, IfOk, OnOk, OnErr, IsTrue};
 ghost use Rattle.stx_base.specs.declared.call.Want.{Want as WantData};
-ghost use Rattle.stx_base.specs.Notes.{call_want, is_reply};
+ghost use Rattle.stx_base.specs.Notes.{call_want, is_answer, is_reply};
 ghost use Rattle.stx_model.specs.Meanings.{state_of, stop_of};
-ghost use Rattle.stx_model.specs.Playable.{IsPlayable};
 ghost use Rattle.stx_model.specs.Reads.{StartsWith};
+ghost use Rattle.stx_machine.specs.Machine.{want_of};
+ghost use Rattle.stx_model.specs.Playable.{IsPlayable};
+ghost use Rattle.stx_machine.specs.Sound.{IsSound, brought, held, held_out};
 ghost use Rattle.stx_client.specs.View.{new_client, script_of, lines_of_script, calling, fed, failed_at, HasReadAll, IsScript};
+ghost use Rattle.stx_client.specs.inner.Keeps.{GoesOn, IsWaiting, run_with};
 
-use crate::calls::call_at;
-use crate::notes::{Notes, line_of, note_of};
-use crate::setup::Setup;
-use crate::stage::{At, Stage};
-use crate::tokens::Tokens;
-use crate::turns::hear;
+use crate::notes::{Notes, note_of};
 use std::alloc::Global;
 use std::marker::Model;
-use stx_base::{Call, ClientLines, Line, PoolCall, Reply, StoreCall, Want};
-use stx_scenario::{NoMemory, Roomy};
-
-/// The most lines that one reply adds.
-const MOST_LINES: usize = 5;
+use stx_base::{Call, ClientLines, Line, Note, PoolCall, Reply, StoreCall, Want};
+use stx_machine::{Machine, Setup, Stage};
+use stx_scenario::NoMemory;
 
 /// A client of a scenario, seen as the notes that it has taken in, the call that is out, whether it has failed, and the
 /// lines that it has said.
@@ -30,25 +26,22 @@ const MOST_LINES: usize = 5;
 pub struct Client<'a> {
     setup: &'a Setup,
     number: u32,
-    at: At,
+    machine: Machine,
     is_out: bool,
-    lines: Roomy<Line>,
     notes: Notes,
-    tokens: Tokens,
 }
 
 impl<'a> Model for Client<'a> {
     ghost use Rattle.std.specs.Prelude.{Some, None, if◌then◌else◌};
-    ghost use Rattle.stx_client.specs.inner.Machine.{want_of};
-    ghost use Rattle.stx_client.specs.inner.Holding.{has_failed};
+    ghost use Rattle.stx_machine.specs.Machine.{has_failed, want_of};
     ghost use Rattle.stx_client.specs.View.{ClientView};
-    ghost use Rattle.stx_client.specs.inner.Keeps.{Keeps, Holds};
+    ghost use Rattle.stx_client.specs.inner.Keeps.{Keeps, HasRoom};
 
     ghost Value = { ClientView };
 
-    ghost view = { λ c. record { scenario = c.setup.now.scenario; number = c.number; pool = c.notes.pool.items; store = c.notes.store.items; out = if c.is_out then Some (want_of c.at.stage) else None; failed = has_failed c.at.stage; said = c.lines.items } };
+    ghost view = { λ c. record { scenario = c.setup.now.scenario; number = c.number; pool = c.notes.pool.items; store = c.notes.store.items; out = if c.is_out then Some (want_of c.machine.stage) else None; failed = has_failed c.machine.stage; said = c.machine.lines.items } };
 
-    ghost invariant = { λ c. Keeps c.setup.now.scenario c.number c.at c.lines.items c.notes.pool.items c.notes.store.items × Holds c.at c.is_out c.tokens c.notes.pool.spare c.notes.store.spare };
+    ghost invariant = { λ c. Keeps c.setup.now.scenario c.number c.machine c.is_out c.notes.pool.items c.notes.store.items × HasRoom c.machine c.notes.pool.spare c.notes.store.spare };
 }
 
 impl<'a> Client<'a> {
@@ -60,17 +53,16 @@ impl<'a> Client<'a> {
         ensures read { IfOk result (λ client. HasReadAll client) }
     {
         let notes = Notes::new(alloc)?;
-        let mut lines = Roomy::new(alloc);
-        lines.reserve(MOST_LINES)?;
-        let at = call_at(setup, number, 0, &mut lines);
+        let mut machine = Machine::new(alloc);
+        machine.reserve(alloc)?;
+        machine.call_at(setup, number, 0);
+        machine.fall(alloc, setup, number)?;
         Ok(Client {
             setup,
             number,
-            at,
+            machine,
             is_out: false,
-            lines,
             notes,
-            tokens: Tokens::none(),
         })
     }
 
@@ -81,7 +73,7 @@ impl<'a> Client<'a> {
         ensures exact { self.now.failed ≡ false → IsScript self.now result.now }
         ensures start { StartsWith (state_of (script_of self.now)).lines result.now }
     {
-        self.lines.as_slice()
+        self.machine.lines.as_slice()
     }
 
     /// The next shared call: where the script over the notes so far stops.
@@ -89,7 +81,7 @@ impl<'a> Client<'a> {
         ensures want { self.now.failed ≡ false → stop_of (script_of self.now) ≡ Some result }
         ensures failed { IsTrue self.now.failed ↔ (result ≡ WantData.Failed) }
     {
-        self.at.stage.want()
+        self.machine.stage.want()
     }
 
     /// Makes the call that is wanted; the connection or the session that it spends goes with it.
@@ -101,20 +93,27 @@ impl<'a> Client<'a> {
         ensures out { self.new ≡ calling self.old (call_want result) }
     {
         self.is_out = true;
-        match self.at.stage.want() {
+        match self.machine.stage.want() {
             Want::Take => Call::Pool(PoolCall::Take),
-            Want::Give(number) => Call::Pool(PoolCall::Give(self.tokens.spend_connection(number))),
+            Want::Give(number) => Call::Pool(PoolCall::Give(
+                self.machine.tokens.spend_connection(number),
+            )),
             Want::Begin => Call::Store(StoreCall::Begin),
             Want::Access(tx, access) => Call::Store(StoreCall::Access(tx, access)),
-            Want::Commit(tx) => Call::Store(StoreCall::Commit(self.tokens.spend_session(tx))),
-            Want::Rollback(tx) => Call::Store(StoreCall::Rollback(self.tokens.spend_session(tx))),
+            Want::Auto(access) => Call::Store(StoreCall::Auto(access)),
+            Want::Commit(tx) => Call::Store(StoreCall::Commit(
+                self.machine.tokens.spend_session(tx),
+            )),
+            Want::Rollback(tx) => Call::Store(StoreCall::Rollback(
+                self.machine.tokens.spend_session(tx),
+            )),
             _ => unreachable!(),
         }
     }
 
     /// Takes in the reply to the call that is out, and goes on to the next shared call or to the end. For want of
     /// memory the client fails, and the reply is taken in all the same. What it had said stays said in either case.
-    pub fn feed(&mut self, _alloc: Global, reply: Reply) -> Result<(), NoMemory>
+    pub fn feed(&mut self, alloc: Global, reply: Reply) -> Result<(), NoMemory>
         requires failed { self.old.failed ≡ false }
         requires reply { IsTrue (is_reply self.old.out reply) }
         ensures ok { OnOk result (self.new ≡ fed self.old reply) }
@@ -123,15 +122,22 @@ impl<'a> Client<'a> {
         ensures longer { StartsWith self.new.said self.old.said }
         ensures script { StartsWith (lines_of_script self.new) self.new.said }
     {
-        let note = note_of(self.at.stage, reply, &mut self.tokens);
+        let want = self.machine.stage.want();
+        let note = note_of(want, reply, &mut self.machine.tokens);
         self.notes.push(note);
         self.is_out = false;
-        if let Err(fault) = make_room(&mut self.lines, &mut self.notes) {
-            self.at.stage = Stage::Failed;
+        let heard = hear(
+            alloc,
+            self.setup,
+            self.number,
+            &mut self.machine,
+            &mut self.notes,
+            note,
+        );
+        if let Err(fault) = heard {
+            self.machine.stage = Stage::Failed;
             return Err(fault);
         }
-        self.lines.push(line_of(note));
-        self.at = hear(self.setup, self.number, self.at, note, &mut self.lines);
         Ok(())
     }
 
@@ -141,7 +147,14 @@ impl<'a> Client<'a> {
         requires done { stop_of (script_of self) ≡ Some WantData.Done }
         ensures { result ≡ (state_of (script_of self.entry)).lines }
     {
-        self.lines.into_list()
+        let Client {
+            setup: _,
+            number: _,
+            machine,
+            is_out: _,
+            notes: _,
+        } = self;
+        machine.into_lines()
     }
 
     /// Gives the client up, and retires what it holds.
@@ -150,16 +163,30 @@ impl<'a> Client<'a> {
     }
 }
 
-// Makes room for the lines of a reply, and for one note more of each kind. Nothing else changes.
-fn make_room(lines: &mut Roomy<Line>, notes: &mut Notes) -> Result<(), NoMemory>
-    ensures lines { lines.new.items ≡ lines.old.items }
+// Takes in a note that answers what is wanted, and goes on to the next shared call or to the end. For want of memory it
+// stops before that, or before the note.
+fn hear(
+    alloc: Global,
+    setup: &Setup,
+    number: u32,
+    machine: &mut Machine,
+    notes: &mut Notes,
+    note: Note,
+) -> Result<(), NoMemory>
+    requires playable { IsPlayable setup.now.scenario }
+    requires client { number < length setup.now.scenario.clients }
+    requires sound { IsSound setup.now.scenario machine.old (brought note (held_out machine.old.stage)) }
+    requires answers { IsTrue (is_answer (want_of machine.old.stage) note) }
     ensures pool { notes.new.pool.items ≡ notes.old.pool.items }
     ensures store { notes.new.store.items ≡ notes.old.store.items }
-    ensures room { OnOk result ((5 ≤ lines.new.spare) × (0 < notes.new.pool.spare) × (0 < notes.new.store.spare)) }
-    ensures full { OnErr result ((lines.old.spare < 5) ⊎ (notes.old.pool.spare ≡ 0) ⊎ (notes.old.store.spare ≡ 0)) }
+    ensures room { OnOk result ((0 < notes.new.pool.spare) × (0 < notes.new.store.spare)) }
+    ensures goes { OnOk result (GoesOn setup.now.scenario number note machine.old machine.new) }
+    ensures waiting { OnOk result (IsWaiting setup.now.scenario machine.new (held machine.new.stage)) }
+    ensures starts { StartsWith (state_of (run_with setup.now.scenario number machine.old note [] [])).lines machine.new.lines.items }
+    ensures longer { StartsWith machine.new.lines.items machine.old.lines.items }
 {
-    lines.reserve(MOST_LINES)?;
-    notes.pool.reserve(1)?;
-    notes.store.reserve(1)?;
-    Ok(())
+    notes.reserve()?;
+    machine.reserve(alloc)?;
+    machine.hear(alloc, setup, note);
+    machine.fall(alloc, setup, number)
 }

@@ -1,16 +1,14 @@
-// The note that a call and its reply make together, its line, and the notes that a client has taken in.
-ghost use Rattle.std.specs.Prelude.{◌≡◌, ◌<◌, ◌≤◌, [], Some, IfOk, IsTrue};
+// The note that a call and its reply make together, and the notes that a client has taken in.
+ghost use Rattle.std.specs.Prelude.{◌≡◌, ◌<◌, [], Some, IfOk, OnOk, IsTrue};
 ghost use Rattle.stx_base.specs.declared.call.Reply.{Reply as ReplyData};
 ghost use Rattle.stx_base.specs.declared.history.Note.{Note as NoteData};
-ghost use Rattle.stx_base.specs.Notes.{is_reply_to, note_line, note_of as note_in, pool_note as pool_note_in, store_note as store_note_in, pool_line as pool_line_of, store_line as store_line_of};
-ghost use Rattle.stx_client.specs.inner.Machine.{want_of};
-ghost use Rattle.stx_client.specs.inner.Holding.{tokens_after};
+ghost use Rattle.stx_base.specs.Notes.{is_reply_to, note_of as note_in, pool_note as pool_note_in, store_note as store_note_in};
+ghost use Rattle.stx_machine.specs.Sound.{brought};
 ghost use Rattle.stx_client.specs.View.{pool_with, store_with};
 
-use crate::stage::Stage;
-use crate::tokens::Tokens;
 use std::alloc::Global;
-use stx_base::{Line, Note, PoolAnswer, PoolNote, Reply, StoreAnswer, StoreNote};
+use stx_base::{Note, PoolAnswer, PoolNote, Reply, StoreAnswer, StoreNote, Want};
+use stx_machine::Tokens;
 use stx_scenario::{NoMemory, Roomy};
 
 /// The notes that a client has taken in, with room for one more of each kind.
@@ -45,96 +43,70 @@ impl Notes {
             Note::Store(note) => self.store.push(note),
         }
     }
-}
 
-/// The note of the reply to a stage's want. What the reply brings is kept.
-pub(crate) fn note_of(stage: Stage, reply: Reply, tokens: &mut Tokens) -> Note
-    requires { IsTrue (is_reply_to (want_of stage) reply) }
-    ensures note { note_in (want_of stage) reply ≡ Some result }
-    ensures tokens { tokens.new ≡ tokens_after result tokens.old }
-{
-    match reply {
-        Reply::Pool(answer) => Note::Pool(pool_note(stage, answer, tokens)),
-        Reply::Store(answer) => Note::Store(store_note(stage, answer, tokens)),
+    /// Makes room for one more of each kind. The notes stay.
+    pub(crate) fn reserve(&mut self) -> Result<(), NoMemory>
+        ensures pool { self.new.pool.items ≡ self.old.pool.items }
+        ensures store { self.new.store.items ≡ self.old.store.items }
+        ensures room { OnOk result ((0 < self.new.pool.spare) × (0 < self.new.store.spare)) }
+    {
+        self.pool.reserve(1)?;
+        self.store.reserve(1)?;
+        Ok(())
     }
 }
 
-fn pool_note(stage: Stage, answer: PoolAnswer, tokens: &mut Tokens) -> PoolNote
-    requires { IsTrue (is_reply_to (want_of stage) (ReplyData.Pool answer)) }
-    ensures note { pool_note_in (want_of stage) answer ≡ Some result }
-    ensures tokens { tokens.new ≡ tokens_after (NoteData.Pool result) tokens.old }
+/// The note of the reply to what is wanted. What the reply brings is kept.
+pub(crate) fn note_of(want: Want, reply: Reply, tokens: &mut Tokens) -> Note
+    requires { IsTrue (is_reply_to want reply) }
+    ensures note { note_in want reply ≡ Some result }
+    ensures tokens { tokens.new ≡ brought result tokens.old }
 {
-    match answer {
-        PoolAnswer::Taken(connection) => {
+    match reply {
+        Reply::Pool(answer) => Note::Pool(pool_note(want, answer, tokens)),
+        Reply::Store(answer) => Note::Store(store_note(want, answer, tokens)),
+    }
+}
+
+fn pool_note(want: Want, answer: PoolAnswer, tokens: &mut Tokens) -> PoolNote
+    requires { IsTrue (is_reply_to want (ReplyData.Pool answer)) }
+    ensures note { pool_note_in want answer ≡ Some result }
+    ensures tokens { tokens.new ≡ brought (NoteData.Pool result) tokens.old }
+{
+    match (want, answer) {
+        (_, PoolAnswer::Taken(connection)) => {
             let number = connection.number();
             tokens.keep_connection(connection);
             PoolNote::Taken(number)
         }
-        PoolAnswer::Empty => PoolNote::Empty,
-        PoolAnswer::Given => match stage {
-            Stage::GivingBack { scope, .. } => PoolNote::Given(scope.connection),
-            _ => unreachable!(),
-        },
+        (_, PoolAnswer::Empty) => PoolNote::Empty,
+        (Want::Give(number), PoolAnswer::Given) => PoolNote::Given(number),
+        _ => unreachable!(),
     }
 }
 
-fn store_note(stage: Stage, answer: StoreAnswer, tokens: &mut Tokens) -> StoreNote
-    requires { IsTrue (is_reply_to (want_of stage) (ReplyData.Store answer)) }
-    ensures note { store_note_in (want_of stage) answer ≡ Some result }
-    ensures tokens { tokens.new ≡ tokens_after (NoteData.Store result) tokens.old }
+fn store_note(want: Want, answer: StoreAnswer, tokens: &mut Tokens) -> StoreNote
+    requires { IsTrue (is_reply_to want (ReplyData.Store answer)) }
+    ensures note { store_note_in want answer ≡ Some result }
+    ensures tokens { tokens.new ≡ brought (NoteData.Store result) tokens.old }
 {
-    match (stage, answer) {
+    match (want, answer) {
         (_, StoreAnswer::Begun(session)) => {
             let number = session.number();
             tokens.keep_session(session);
             StoreNote::Begin(number)
         }
-        (Stage::Accessing { scope, access, .. }, StoreAnswer::Answered(answer)) =>
-            StoreNote::Access {
-                tx: scope.tx,
-                access,
-                answer,
-            },
-        (Stage::Completing { scope, .. }, StoreAnswer::Committed(number)) => StoreNote::Commit {
-            tx: scope.tx,
-            number,
+        (Want::Access(tx, access), StoreAnswer::Answered(answer)) => StoreNote::Access {
+            tx,
+            access,
+            answer,
         },
-        (Stage::Completing { scope, .. }, StoreAnswer::RolledBack) => StoreNote::Rollback(scope.tx),
+        (Want::Auto(access), StoreAnswer::Answered(answer)) => StoreNote::Auto { access, answer },
+        (Want::Point(tx), StoreAnswer::Pointed) => StoreNote::Point(tx),
+        (Want::BackTo(tx), StoreAnswer::BackedTo) => StoreNote::BackTo(tx),
+        (Want::Release(tx), StoreAnswer::Released) => StoreNote::Release(tx),
+        (Want::Commit(tx), StoreAnswer::Committed(number)) => StoreNote::Commit { tx, number },
+        (Want::Rollback(tx), StoreAnswer::RolledBack) => StoreNote::Rollback(tx),
         _ => unreachable!(),
-    }
-}
-
-/// The one line of a note.
-pub(crate) fn line_of(note: Note) -> Line
-    ensures { result ≡ note_line note }
-{
-    match note {
-        Note::Pool(note) => pool_line(note),
-        Note::Store(note) => store_line(note),
-    }
-}
-
-fn pool_line(note: PoolNote) -> Line
-    ensures { result ≡ pool_line_of note }
-{
-    match note {
-        PoolNote::Taken(connection) => Line::Take(Some(connection)),
-        PoolNote::Empty => Line::Take(None),
-        PoolNote::Given(connection) => Line::Give(connection),
-    }
-}
-
-fn store_line(note: StoreNote) -> Line
-    ensures { result ≡ store_line_of note }
-{
-    match note {
-        StoreNote::Begin(tx) => Line::Begin(tx),
-        StoreNote::Access { tx, access, answer } => Line::Row { tx, access, answer },
-        StoreNote::Point(tx) => Line::Savepoint(tx),
-        StoreNote::BackTo(tx) => Line::BackTo(tx),
-        StoreNote::Release(tx) => Line::Release(tx),
-        StoreNote::Commit { tx, number } => Line::Commit { tx, number },
-        StoreNote::Rollback(tx) => Line::Rollback(tx),
-        StoreNote::Auto { access, answer } => Line::Auto { access, answer },
     }
 }

@@ -27,11 +27,8 @@ pub mod Apart
 pub mod TooLate
 pub mod Keeping
 pub mod Leaving
-pub mod FlatForm
-pub mod FlatTransfer
 pub mod EntriesLaw
 pub mod PlayedLaw
-pub mod FlatGrowth
 pub mod Spending
 pub mod Sharing
 pub mod Rounding

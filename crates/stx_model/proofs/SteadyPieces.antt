@@ -37,14 +37,14 @@ use Rattle.stx_model.proofs.Steady.{no_later, later_yet, said_later, IsSteady, o
 
 -- ---- throws
 
-throws_steady : (x : ClassNo) → IsSteady (throws x)
+pub throws_steady : (x : ClassNo) → IsSteady (throws x)
 throws_steady x = say_steady (Line.Throw x) (Over (Some x)) (over_steady (Some x))
 
-concludes_steady : (x : Option ClassNo) → IsSteady (concludes x)
+pub concludes_steady : (x : Option ClassNo) → IsSteady (concludes x)
 concludes_steady None = over_steady None
 concludes_steady (Some x) = throws_steady x
 
-caught_steady : (S : Scenario) (catch x : Option ClassNo) → IsSteady (caught S catch x)
+pub caught_steady : (S : Scenario) (catch x : Option ClassNo) → IsSteady (caught S catch x)
 caught_steady S catch None = over_steady None
 caught_steady S catch (Some x) =
     either_steady (catches S catch x) (λ st. Over None (say (Line.Catch x) st)) (Over (Some x))
@@ -59,16 +59,16 @@ module _ (at : RowAccess) (ends_steady : (x : Option ClassNo) → IsSteady (at.e
   unless_busy_steady next steady Answer.Absent = steady Answer.Absent
   unless_busy_steady next steady Answer.Done = steady Answer.Done
 
-  access_steady : (a : Access) (next : Answer → Meaning) → ((r : Answer) → IsSteady (next r)) → IsSteady (access_row at a next)
+  pub access_steady : (a : Access) (next : Answer → Meaning) → ((r : Answer) → IsSteady (next r)) → IsSteady (access_row at a next)
   access_steady a next steady =
       ask_steady (at.want a) (on_access (unless_busy at next)) (on_access_steady (unless_busy at next) (unless_busy_steady next steady))
 
-  needed_steady : (n : ℤ) (r : Answer) → IsSteady (needed at n r)
+  pub needed_steady : (n : ℤ) (r : Answer) → IsSteady (needed at n r)
   needed_steady n r =
       either_steady (int_lt (value_of r) n) (at.ends (Some ILLEGAL_STATE_EXCEPTION)) (at.ends None) (ends_steady (Some ILLEGAL_STATE_EXCEPTION))
       (ends_steady None)
 
-  added_steady : (k : RowNo) (n : ℤ) (r : Answer) → IsSteady (added at k n r)
+  pub added_steady : (k : RowNo) (n : ℤ) (r : Answer) → IsSteady (added at k n r)
   added_steady k n r =
       let write = Access.Write k (value_of r +ℤ n) in
       either_steady (is_value (value_of r +ℤ n)) (access_row at write (nothing_more at)) (at.ends (Some ARITHMETIC_EXCEPTION))
@@ -156,7 +156,7 @@ swallows_change None = record { later = no_later; same = λ st p s. refl }
 
 -- ---- given how methods are called
 
-leaves_steady : (m : MethodNo) (x : Option ClassNo) → IsSteady (leaves m x)
+pub leaves_steady : (m : MethodNo) (x : Option ClassNo) → IsSteady (leaves m x)
 leaves_steady m x = say_steady (Line.Leave m x) (Over x) (over_steady x)
 
 live_in_steady : (tx : Option Live) (next : Live → Meaning) → ((live : Live) → IsSteady (next live)) → IsSteady (live_in tx next)
@@ -302,7 +302,7 @@ module _ (S : Scenario) (calls : Calls) (calls_steady : AreSteady calls) where
       (round_of_steady scope.owns round (stopping_steady Round.BeforeCommit)) (λ y. acts_steady scope (completion_after scope.kind e y) (later_or y x)))
       (acts_steady scope (completion scope.kind e) x)
 
-  ends_steady : (scope : Scope) (a : TxAttr) (x : Option ClassNo) → IsSteady (ends S calls scope a x)
+  pub ends_steady : (scope : Scope) (a : TxAttr) (x : Option ClassNo) → IsSteady (ends S calls scope a x)
   unfolding ends
   ends_steady scope a x st =
       let e = ending scope.kind (rolls S a.rules x) (is_set st.local) st.context in
@@ -322,7 +322,7 @@ module _ (S : Scenario) (calls : Calls) (calls_steady : AreSteady calls) where
   within_steady m kind a run steady st =
       in_scope_steady (record { method = m; kind = kind; owns = false; older = None; outer = st.local }) a run steady st
 
-  begins_steady : (m : MethodNo) (a : TxAttr) (run : Meaning) → IsSteady run → (owns : Bool) (older : Context) (c : Option ℕ)
+  pub begins_steady : (m : MethodNo) (a : TxAttr) (run : Meaning) → IsSteady run → (owns : Bool) (older : Context) (c : Option ℕ)
       → IsSteady (begins S calls m a run owns older c)
   unfolding begins
   begins_steady m a run steady owns older (Some c) =
@@ -340,7 +340,7 @@ module _ (S : Scenario) (calls : Calls) (calls_steady : AreSteady calls) where
       in_scope_steady (record { method = m; kind = Kind.Empty; owns = owns; older = older; outer = st.local }) a run steady
       (with_context (record { tx = st.context.tx; syncs = started_syncs owns st.context.syncs }) st)
 
-  opens_steady : (m : MethodNo) (a : TxAttr) (run : Meaning) → IsSteady run → (o : Opening) → IsSteady (opens S calls m a run o)
+  pub opens_steady : (m : MethodNo) (a : TxAttr) (run : Meaning) → IsSteady run → (o : Opening) → IsSteady (opens S calls m a run o)
   unfolding opens
   opens_steady m a run steady (Opening.Refuse x) st = say_steady (Line.Throw x) (leaves m (Some x)) (leaves_steady m (Some x)) st
   opens_steady m a run steady (Opening.Fresh suspends owns) st =
@@ -416,7 +416,7 @@ calls_below_steady S (suc bound) way m =
     either_steady (rank S m == bound) (invoked S inner way m) (inner way m) (invoked_steady S inner (calls_below_steady S bound) way m)
     (calls_below_steady S bound way m)
 
-done_steady : IsSteady (Stops Want.Done)
+pub done_steady : IsSteady (Stops Want.Done)
 done_steady st = (no_later st, inr (record { done = refl; stays = λ p s. refl }))
 
 pub tops_steady : (S : Scenario) (k : ℕ) (calls : List MethodNo) → IsSteady (tops S k calls)

@@ -1,4 +1,4 @@
--- The forms that the client plays so far, beside what every valid scenario has: the one list. What a later form needs is
+-- The forms that the players don't play yet, beside what every valid scenario has: the one list. What a later form needs is
 -- taken out of it, and it goes with the last. The script knows every form.
 use Rattle.std.specs.Prelude.{◌≡◌, Bool, true, false, Option, Some, None}
 use Rattle.std.specs.List.{AllPass, All}
@@ -6,37 +6,27 @@ use Rattle.stx_scenario.specs.declared.scenario.Scenario.{Scenario}
 use Rattle.stx_scenario.specs.declared.scenario.Method.{Method}
 use Rattle.stx_scenario.specs.declared.scenario.Propagation.{Propagation}
 use Rattle.stx_scenario.specs.declared.scenario.Stmt.{Stmt}
-use Rattle.stx_scenario.specs.declared.scenario.SyncMode.{SyncMode}
 use Rattle.stx_scenario.specs.declared.scenario.TxAttr.{TxAttr}
 use Rattle.stx_base.specs.Attributes.{method_attribute}
 
-abbrev pub is_always : SyncMode → Bool
-is_always SyncMode.Always = true
-is_always _ = false
+abbrev pub is_nested : Propagation → Bool
+is_nested Propagation.Nested = true
+is_nested _ = false
 
-abbrev pub is_required : Propagation → Bool
-is_required Propagation.Required = true
-is_required _ = false
+-- a method's attribute, its own or its bean's, has propagation nested
+abbrev pub has_nested : Option TxAttr → Bool
+has_nested (Some attribute) = is_nested attribute.propagation
+has_nested None = false
 
--- a method has an attribute, its own or its bean's, with propagation required
-abbrev pub has_required : Option TxAttr → Bool
-has_required (Some attribute) = is_required attribute.propagation
-has_required None = false
-
--- its body reads, writes, erases, adds, needs and throws
+-- a statement that registers or publishes nothing
 abbrev pub is_built : Stmt → Bool
-is_built (Stmt.Read row) = true
-is_built (Stmt.Write row v) = true
-is_built (Stmt.Erase row) = true
-is_built (Stmt.Add row v) = true
-is_built (Stmt.Need row v) = true
-is_built (Stmt.Throw class) = true
-is_built _ = false
+is_built (Stmt.Register sync) = false
+is_built (Stmt.Publish event) = false
+is_built _ = true
 
 pub record IsBuiltMethod (S : Scenario) (method : Method) : Type 0 where
-  pub tx : has_required (method_attribute S method) ≡ true
+  pub tx : has_nested (method_attribute S method) ≡ false
   pub body : AllPass is_built method.body
 
 pub record IsBuilt (S : Scenario) : Type 0 where
-  pub mode : is_always S.settings.mode ≡ true
   pub methods : All (IsBuiltMethod S) S.methods

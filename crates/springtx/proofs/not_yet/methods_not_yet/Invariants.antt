@@ -4,4 +4,4 @@ use Rattle.springtx.specs.NotYet.{first_from, method_not_yet}
 use Rattle.springtx.proofs.not_yet.methods_not_yet.Given as goal
 
 abbrev pub invariant-loop-at : goal.invariant-loop-at
-invariant-loop-at l = first_from (method_not_yet l.scenario) l.at (drop l.at l.method-items) ≡ first_from (method_not_yet l.scenario) 0 l.method-items
+invariant-loop-at l = first_from method_not_yet l.at (drop l.at l.methods) ≡ first_from method_not_yet 0 l.methods

@@ -1,0 +1,154 @@
+-- What the innermost piece does with the note that it was waiting for.
+use Rattle.std.proofs.Common.{◌≡◌, ℕ, ◌++◌, ◌∷◌, [], Bool, true, false, List, Option, Some, None, refl, sym, ap, ◌∙◌, subst}
+use Rattle.std.specs.Prelude.{IsSome}
+use Rattle.std.specs.Option.{option_map}
+use Rattle.std.proofs.lemmas.Bool.{false≢true}
+use Rattle.stx_scenario.specs.declared.numbers.ClassNo.{ClassNo}
+use Rattle.stx_scenario.specs.declared.scenario.Scenario.{Scenario}
+use Rattle.stx_base.specs.declared.call.Want.{Want}
+use Rattle.stx_base.specs.declared.history.Access.{Access}
+use Rattle.stx_base.specs.declared.history.Answer.{Answer}
+use Rattle.stx_base.specs.declared.history.Note.{Note}
+use Rattle.stx_base.specs.declared.history.PoolNote.{PoolNote}
+use Rattle.stx_base.specs.declared.history.StoreNote.{StoreNote}
+use Rattle.stx_base.specs.declared.line.Line.{Line}
+use Rattle.stx_base.specs.declared.manager.Action.{Action}
+use Rattle.stx_base.specs.Notes.{pool_answers, store_answers, store_line}
+use Rattle.stx_model.specs.Contexts.{Context}
+use Rattle.stx_model.specs.Meanings.{State, Result, ask, on_access, with_local}
+use Rattle.stx_model.specs.Rounds.{Calls}
+use Rattle.stx_model.specs.Scopes.{Scope, acts, begins, leaves, resumed}
+use Rattle.stx_model.specs.Statements.{concludes, unless_busy}
+use Rattle.stx_model.proofs.Steady.{asked}
+use Rattle.stx_context.specs.Carrying.{Carried, context_of}
+use Rattle.stx_frames.specs.declared.frame.Frame.{Frame}
+use Rattle.stx_machine.specs.declared.interception.Interception.{Interception}
+use Rattle.stx_machine.specs.declared.stage.Bound.{Bound}
+use Rattle.stx_machine.specs.declared.stage.Place.{Place}
+use Rattle.stx_machine.specs.declared.stage.Stage.{Stage}
+use Rattle.stx_machine.specs.declared.stage.Then.{Then}
+use Rattle.stx_machine.specs.Machine.{Call, accesses, answered, want_at, row_access, does, completes, inside, scope_of, rest_of, thrown_of, of_top, finds_none, starts}
+use Rattle.stx_machine.specs.Sound.{Bond, CallOpens, CallCompletes, GivesLast, is_resumption}
+
+-- ---- the last action
+
+resumption_is : (rest : List Action) → is_resumption rest ≡ true → rest ≡ Action.Resumption ∷ []
+resumption_is [] is = absurd (false≢true is)
+resumption_is (Action.Resumption ∷ []) is = refl
+resumption_is (Action.Resumption ∷ a ∷ rest) is = absurd (false≢true is)
+resumption_is (Action.RoundBeforeCompletion ∷ rest) is = absurd (false≢true is)
+resumption_is (Action.RoundAfterCommit ∷ rest) is = absurd (false≢true is)
+resumption_is (Action.RoundAfterCompletion committed ∷ rest) is = absurd (false≢true is)
+resumption_is (Action.CommitStore ∷ rest) is = absurd (false≢true is)
+resumption_is (Action.RollbackStore ∷ rest) is = absurd (false≢true is)
+resumption_is (Action.BackToPoint ∷ rest) is = absurd (false≢true is)
+resumption_is (Action.ReleasePoint ∷ rest) is = absurd (false≢true is)
+resumption_is (Action.MarkGlobally ∷ rest) is = absurd (false≢true is)
+resumption_is (Action.ThrowUnexpected ∷ rest) is = absurd (false≢true is)
+resumption_is (Action.GiveBack ∷ rest) is = absurd (false≢true is)
+
+module _ (lines : List Line) (local : Option Bool) (pool : List PoolNote) (store : List StoreNote) where
+  at : Context → State
+  at context = record { lines = lines; context = context; local = local; pool = pool; store = store }
+
+  either_resumes : (scope : Scope) (older : Option Context) (x : Option ClassNo) (one other : Context) → IsSome older
+      → leaves scope.method x (with_local scope.outer (resumed older (at one))) ≡ leaves scope.method x (with_local scope.outer (resumed older (at other)))
+  unfolding at
+  either_resumes scope (Some older) x one other is = refl
+  either_resumes scope None x one other is = cc
+
+  -- what was carried until then doesn't matter to a resumption
+  last_resumes : (S : Scenario) (calls : Calls) (scope : Scope) (rest : List Action) (x : Option ClassNo) (one other : Context) → is_resumption rest ≡ true → IsSome scope.older
+      → acts S calls scope rest x (at one) ≡ acts S calls scope rest x (at other)
+  unfolding acts
+  last_resumes S calls scope rest x one other is older =
+      let only = resumption_is rest is in
+      ap (λ r. acts S calls scope r x (at one)) only ∙ either_resumes scope scope.older x one other older ∙ ap (λ r. acts S calls scope r x (at other)) (sym only)
+
+some_mapped : (o : Option Carried) → IsSome o → IsSome (option_map context_of o)
+some_mapped (Some carried) is = is
+some_mapped None is = is
+
+-- ---- each note
+
+module _ (S : Scenario) (lines : List Line) (context : Context) (local : Option Bool) (pool : List PoolNote) (store : List StoreNote) where
+  abbrev before : List PoolNote → List StoreNote → State
+  before p s = record { lines = lines; context = context; local = local; pool = p; store = s }
+
+  abbrev said : Line → State
+  said line = record { lines = lines ++ line ∷ []; context = context; local = local; pool = pool; store = store }
+
+  pub heard_access : (place : Place) (a : Access) (d : Then) (u : ℕ) (b : Access) (r : Answer) → store_answers (want_at place a) (StoreNote.Access u b r) ≡ true
+      → accesses place a d (before pool (StoreNote.Access u b r ∷ store)) ≡ answered place d r (said (Line.Row u b r))
+  heard_access (Place.Transaction t) a d u b r is =
+      asked (Want.Access t a) (on_access (unless_busy (row_access (Place.Transaction t)) (does (row_access (Place.Transaction t)) d))) (before pool (StoreNote.Access u b r ∷ store))
+      (Note.Store (StoreNote.Access u b r)) true refl is
+  heard_access (Place.Connection c) a d u b r is = absurd (false≢true is)
+
+  pub heard_auto : (place : Place) (a : Access) (d : Then) (b : Access) (r : Answer) → store_answers (want_at place a) (StoreNote.Auto b r) ≡ true
+      → accesses place a d (before pool (StoreNote.Auto b r ∷ store)) ≡ answered place d r (said (Line.Auto b r))
+  heard_auto (Place.Connection c) a d b r is =
+      asked (Want.Auto a) (on_access (unless_busy (row_access (Place.Connection c)) (does (row_access (Place.Connection c)) d))) (before pool (StoreNote.Auto b r ∷ store))
+      (Note.Store (StoreNote.Auto b r)) true refl is
+  heard_auto (Place.Transaction t) a d b r is = absurd (false≢true is)
+
+  pub heard_given : (c d : ℕ) (x : Option ClassNo) → pool_answers (Want.Give c) (PoolNote.Given d) ≡ true
+      → ask (Want.Give c) (λ _. concludes x) (before (PoolNote.Given d ∷ pool) store) ≡ concludes x (said (Line.Give d))
+  heard_given c d x is = asked (Want.Give c) (λ _. concludes x) (before (PoolNote.Given d ∷ pool) store) (Note.Pool (PoolNote.Given d)) true refl is
+
+  pub heard_taken : (fs : List Call) (bond : Bond) (c : ℕ) → CallOpens S bond fs
+      → of_top S fs Stage.Taking (before (PoolNote.Taken c ∷ pool) store) ≡ of_top S fs (Stage.Beginning c) (said (Line.Take (Some c)))
+  unfolding ask
+  heard_taken (Frame.Body m place catch (Some i) ∷ fs) bond c opens = refl
+  heard_taken (Frame.Body m place catch None ∷ fs) bond c opens = absurd opens
+  heard_taken (Frame.Round round todo at place x ∷ fs) bond c opens = absurd opens
+  heard_taken (Frame.Now listener place ∷ fs) bond c opens = absurd opens
+  heard_taken [] bond c opens = absurd opens
+
+  pub heard_empty : (fs : List Call) (bond : Bond) → CallOpens S bond fs
+      → of_top S fs Stage.Taking (before (PoolNote.Empty ∷ pool) store) ≡ finds_none S fs (said (Line.Take None))
+  unfolding ask
+  heard_empty (Frame.Body m place catch (Some i) ∷ fs) bond opens = refl
+  heard_empty (Frame.Body m place catch None ∷ fs) bond opens = absurd opens
+  heard_empty (Frame.Round round todo at place x ∷ fs) bond opens = absurd opens
+  heard_empty (Frame.Now listener place ∷ fs) bond opens = absurd opens
+  heard_empty [] bond opens = absurd opens
+
+  pub heard_begin : (fs : List Call) (bond : Bond) (c t : ℕ) → CallOpens S bond fs
+      → of_top S fs (Stage.Beginning c) (before pool (StoreNote.Begin t ∷ store)) ≡ starts S fs c t (said (Line.Begin t))
+  unfolding begins ask
+  heard_begin (Frame.Body m place catch (Some i) ∷ fs) bond c t opens = refl
+  heard_begin (Frame.Body m place catch None ∷ fs) bond c t opens = absurd opens
+  heard_begin (Frame.Round round todo at place x ∷ fs) bond c t opens = absurd opens
+  heard_begin (Frame.Now listener place ∷ fs) bond c t opens = absurd opens
+  heard_begin [] bond c t opens = absurd opens
+
+  pub heard_commit : (fs : List Call) (bond : Bond) (t u k : ℕ) → CallCompletes S bond fs → store_answers (Want.Commit t) (StoreNote.Commit u k) ≡ true
+      → of_top S fs (Stage.Committing t) (before pool (StoreNote.Commit u k ∷ store)) ≡ of_top S fs Stage.Completing (said (Line.Commit u k))
+  heard_commit (Frame.Body m place catch (Some i) ∷ fs) bond t u k completing is =
+      asked (Want.Commit t) (λ _. completes S m i (rest_of i.phase)) (before pool (StoreNote.Commit u k ∷ store)) (Note.Store (StoreNote.Commit u k)) true refl is
+  heard_commit (Frame.Body m place catch None ∷ fs) bond t u k completing is = absurd completing
+  heard_commit (Frame.Round round todo at place x ∷ fs) bond t u k completing is = absurd completing
+  heard_commit (Frame.Now listener place ∷ fs) bond t u k completing is = absurd completing
+  heard_commit [] bond t u k completing is = absurd completing
+
+  pub heard_rollback : (fs : List Call) (bond : Bond) (t u : ℕ) → CallCompletes S bond fs → store_answers (Want.Rollback t) (StoreNote.Rollback u) ≡ true
+      → of_top S fs (Stage.RollingBack t) (before pool (StoreNote.Rollback u ∷ store)) ≡ of_top S fs Stage.Completing (said (Line.Rollback u))
+  heard_rollback (Frame.Body m place catch (Some i) ∷ fs) bond t u completing is =
+      asked (Want.Rollback t) (λ _. completes S m i (rest_of i.phase)) (before pool (StoreNote.Rollback u ∷ store)) (Note.Store (StoreNote.Rollback u)) true refl is
+  heard_rollback (Frame.Body m place catch None ∷ fs) bond t u completing is = absurd completing
+  heard_rollback (Frame.Round round todo at place x ∷ fs) bond t u completing is = absurd completing
+  heard_rollback (Frame.Now listener place ∷ fs) bond t u completing is = absurd completing
+  heard_rollback [] bond t u completing is = absurd completing
+
+  -- the connection was given back: whatever is carried until what was suspended is resumed
+  pub heard_back : (fs : List Call) (bound : Bound) (d : ℕ) (other : Context) → GivesLast fs → pool_answers (Want.Give bound.connection) (PoolNote.Given d) ≡ true
+      → of_top S fs (Stage.GivingBack bound) (before (PoolNote.Given d ∷ pool) store) ≡ of_top S fs Stage.Completing (record (said (Line.Give d)) { context = other })
+  unfolding at
+  heard_back (Frame.Body m place catch (Some i) ∷ fs) bound d other last is =
+      asked (Want.Give bound.connection) (λ _. completes S m i (rest_of i.phase)) (before (PoolNote.Given d ∷ pool) store) (Note.Pool (PoolNote.Given d)) true refl is
+      ∙ last_resumes (lines ++ Line.Give d ∷ []) local pool store S (inside S m) (scope_of m i) (rest_of i.phase) (thrown_of i.phase) context other last.0 (some_mapped i.scope.suspended last.1)
+  heard_back (Frame.Body m place catch None ∷ fs) bound d other last is = absurd last
+  heard_back (Frame.Round round todo at place x ∷ fs) bound d other last is = absurd last
+  heard_back (Frame.Now listener place ∷ fs) bound d other last is = absurd last
+  heard_back [] bound d other last is = absurd last

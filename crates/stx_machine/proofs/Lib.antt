@@ -1,0 +1,11 @@
+pub mod Sums
+pub mod Stacks
+pub mod CallLaws
+pub mod Places
+pub mod TopLaws
+pub mod OpeningLaws
+pub mod Endings
+pub mod RowLaws
+pub mod Growth
+pub mod Hearing
+pub mod BodyLaws

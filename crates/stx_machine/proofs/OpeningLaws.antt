@@ -1,0 +1,203 @@
+-- What the table of openings tells of the context.
+use Rattle.std.proofs.Common.{◌≡◌, ◌<◌, ◌≤◌, ◌∷◌, ◌++◌, [], Bool, true, false, List, Option, Some, None, refl, sym, ap, ◌∙◌, subst, arith, length}
+use Rattle.std.specs.Option.{is_some, option_map}
+use Rattle.stx_sync.specs.Registries.{Registrations}
+use Rattle.std.proofs.lemmas.Bool.{false≢true}
+use Rattle.stx_scenario.specs.declared.numbers.ClassNo.{ClassNo}
+use Rattle.stx_scenario.specs.declared.scenario.Propagation.{Propagation}
+use Rattle.stx_scenario.specs.declared.scenario.Settings.{Settings}
+use Rattle.stx_scenario.specs.declared.scenario.SyncMode.{SyncMode}
+use Rattle.stx_scenario.specs.declared.scenario.TxAttr.{TxAttr}
+use Rattle.stx_base.specs.declared.manager.Opening.{Opening}
+use Rattle.stx_base.specs.declared.history.PoolNote.{PoolNote}
+use Rattle.stx_base.specs.declared.history.StoreNote.{StoreNote}
+use Rattle.stx_model.specs.Contexts.{Context, Live, Registration, bare}
+use Rattle.stx_model.specs.Meanings.{State}
+use Rattle.stx_model.specs.Opening.{opening, opening_in, opening_without, opening_within, owns_empty}
+use Rattle.stx_model.specs.Scopes.{suspend, suspended}
+use Rattle.stx_model.specs.Built.{is_nested}
+
+module _ (settings : Settings) where
+  -- ---- refusals
+
+  known : (x y : ClassNo) → Opening.Refuse x ≡ Opening.Refuse y → x.0 < 17 → y.0 < 17
+  known x y is less =
+      let same : x ≡ y = cc in subst (λ z. z.0 < 17) same less
+
+  known_point : (nested mark : Bool) (x y z : ClassNo) → x.0 < 17 → y.0 < 17
+      → elim nested as (λ _. Opening) [ false ↦ Opening.Refuse x | true ↦ elim mark as (λ _. Opening) [ true ↦ Opening.Refuse y | false ↦ Opening.Point ] ] ≡ Opening.Refuse z → z.0 < 17
+  known_point false mark x y z first second is = known x z is first
+  known_point true true x y z first second is = known y z is second
+  known_point true false x y z first second is = cc
+
+  known_within : (live : Live) (p : Propagation) (x : ClassNo) → opening_within settings live p ≡ Opening.Refuse x → x.0 < 17
+  known_within live Propagation.Required x is = cc
+  known_within live Propagation.Supports x is = cc
+  known_within live Propagation.Mandatory x is = cc
+  known_within live Propagation.RequiresNew x is = cc
+  known_within live Propagation.NotSupported x is = cc
+  known_within live Propagation.Never x is = known _ x is (omega arith)
+  known_within live Propagation.Nested x is = known_point settings.nested live.mark _ _ x (omega arith) (omega arith) is
+
+  known_without : (context : Context) (p : Propagation) (x : ClassNo) → opening_without settings context p ≡ Opening.Refuse x → x.0 < 17
+  known_without context Propagation.Required x is = cc
+  known_without context Propagation.Supports x is = cc
+  known_without context Propagation.Mandatory x is = known _ x is (omega arith)
+  known_without context Propagation.RequiresNew x is = cc
+  known_without context Propagation.NotSupported x is = cc
+  known_without context Propagation.Never x is = cc
+  known_without context Propagation.Nested x is = cc
+
+  known_in : (a : TxAttr) (context : Context) (tx : Option Live) (x : ClassNo) → opening_in settings a context tx ≡ Opening.Refuse x → x.0 < 17
+  known_in a context (Some live) x is = known_within live a.propagation x is
+  known_in a context None x is = known_without context a.propagation x is
+
+  -- a class with which a call is refused is built in
+  pub refused_known : (a : TxAttr) (context : Context) (x : ClassNo) → opening settings a context ≡ Opening.Refuse x → x.0 < 17
+  unfolding opening
+  refused_known a context x is = known_in a context context.tx x is
+
+  -- ---- fresh scopes
+
+  none_active : (syncs : Option (List Registration)) (owns o s : Bool) → Opening.Fresh (is_some syncs) owns ≡ Opening.Fresh s o → s ≡ false → syncs ≡ None
+  none_active None owns o s is not = refl
+  none_active (Some list) owns o s is not =
+      let same : true ≡ s = cc in absurd (false≢true (sym not ∙ sym same))
+
+  always : (owns o s : Bool) {X : Type 0} → Opening.Fresh true owns ≡ Opening.Fresh s o → s ≡ false → X
+  always owns o s is not =
+      let same : true ≡ s = cc in absurd (false≢true (sym not ∙ sym same))
+
+  no_fresh_point : (nested mark s o : Bool) (x y : ClassNo) {X : Type 0}
+      → elim nested as (λ _. Opening) [ false ↦ Opening.Refuse x | true ↦ elim mark as (λ _. Opening) [ true ↦ Opening.Refuse y | false ↦ Opening.Point ] ] ≡ Opening.Fresh s o → X
+  no_fresh_point false mark s o x y is = cc
+  no_fresh_point true true s o x y is = cc
+  no_fresh_point true false s o x y is = cc
+
+  fresh_within : (live : Live) (p : Propagation) (s o : Bool) {X : Type 0} → opening_within settings live p ≡ Opening.Fresh s o → s ≡ false → X
+  fresh_within live Propagation.Required s o is not = cc
+  fresh_within live Propagation.Supports s o is not = cc
+  fresh_within live Propagation.Mandatory s o is not = cc
+  fresh_within live Propagation.RequiresNew s o is not = always _ o s is not
+  fresh_within live Propagation.NotSupported s o is not = cc
+  fresh_within live Propagation.Never s o is not = cc
+  fresh_within live Propagation.Nested s o is not = no_fresh_point settings.nested live.mark s o _ _ is
+
+  fresh_without : (context : Context) (p : Propagation) (s o : Bool) → opening_without settings context p ≡ Opening.Fresh s o → s ≡ false → context.syncs ≡ None
+  fresh_without context Propagation.Required s o is not = none_active context.syncs _ o s is not
+  fresh_without context Propagation.Supports s o is not = cc
+  fresh_without context Propagation.Mandatory s o is not = cc
+  fresh_without context Propagation.RequiresNew s o is not = none_active context.syncs _ o s is not
+  fresh_without context Propagation.NotSupported s o is not = cc
+  fresh_without context Propagation.Never s o is not = cc
+  fresh_without context Propagation.Nested s o is not = none_active context.syncs _ o s is not
+
+  -- a fresh scope that suspends nothing opens where nothing is carried
+  fresh_in : (a : TxAttr) (tx : Option Live) (syncs : Option (List Registration)) (s o : Bool)
+      → opening_in settings a (record { tx = tx; syncs = syncs }) tx ≡ Opening.Fresh s o → s ≡ false → ◌≡◌ {A = Context} (record { tx = tx; syncs = syncs }) bare
+  fresh_in a (Some live) syncs s o is not = fresh_within live a.propagation s o is not
+  fresh_in a None syncs s o is not =
+      λ i. record { tx = None; syncs = fresh_without (record { tx = None; syncs = syncs }) a.propagation s o is not i }
+
+  pub fresh_bare : (a : TxAttr) (context : Context) (s o : Bool) → opening settings a context ≡ Opening.Fresh s o → s ≡ false → context ≡ bare
+  unfolding opening
+  fresh_bare a context s o is not = fresh_in a context.tx context.syncs s o is not
+
+  -- ---- empty scopes
+
+  owns_inactive : (mode : SyncMode) (syncs : Option (List Registration)) → owns_empty mode (is_some syncs) ≡ true → syncs ≡ None
+  owns_inactive SyncMode.Always None is = refl
+  owns_inactive SyncMode.Always (Some list) is = absurd (false≢true is)
+  owns_inactive SyncMode.Actual syncs is = absurd (false≢true is)
+  owns_inactive SyncMode.Never syncs is = absurd (false≢true is)
+
+  owner : (mode : SyncMode) (syncs : Option (List Registration)) (s o : Bool) → Opening.Empty false (owns_empty mode (is_some syncs)) ≡ Opening.Empty s o → o ≡ true → syncs ≡ None
+  owner mode syncs s o is owns =
+      let same : owns_empty mode (is_some syncs) ≡ o = cc in owns_inactive mode syncs (same ∙ owns)
+
+  apart : (owns s o : Bool) {X : Type 0} → Opening.Empty true owns ≡ Opening.Empty s o → s ≡ false → X
+  apart owns s o is not =
+      let same : true ≡ s = cc in absurd (false≢true (sym not ∙ sym same))
+
+  no_empty_point : (nested mark s o : Bool) (x y : ClassNo) {X : Type 0}
+      → elim nested as (λ _. Opening) [ false ↦ Opening.Refuse x | true ↦ elim mark as (λ _. Opening) [ true ↦ Opening.Refuse y | false ↦ Opening.Point ] ] ≡ Opening.Empty s o → X
+  no_empty_point false mark s o x y is = cc
+  no_empty_point true true s o x y is = cc
+  no_empty_point true false s o x y is = cc
+
+  empty_in : (a : TxAttr) (context : Context) (tx : Option Live) (s o : Bool) → opening_in settings a context tx ≡ Opening.Empty s o → o ≡ true → s ≡ false → context.syncs ≡ None
+  empty_in a context (Some live) s o is owns not = within a.propagation is
+    where
+      within : (p : Propagation) → opening_within settings live p ≡ Opening.Empty s o → context.syncs ≡ None
+      within Propagation.Required is = cc
+      within Propagation.Supports is = cc
+      within Propagation.Mandatory is = cc
+      within Propagation.RequiresNew is = cc
+      within Propagation.NotSupported is = apart _ s o is not
+      within Propagation.Never is = cc
+      within Propagation.Nested is = no_empty_point settings.nested live.mark s o _ _ is
+  empty_in a context None s o is owns not = without a.propagation is
+    where
+      without : (p : Propagation) → opening_without settings context p ≡ Opening.Empty s o → context.syncs ≡ None
+      without Propagation.Required is = cc
+      without Propagation.Supports is = owner settings.mode context.syncs s o is owns
+      without Propagation.Mandatory is = cc
+      without Propagation.RequiresNew is = cc
+      without Propagation.NotSupported is = owner settings.mode context.syncs s o is owns
+      without Propagation.Never is = owner settings.mode context.syncs s o is owns
+      without Propagation.Nested is = cc
+
+  -- an empty scope that owns synchronisation and suspends nothing opens where none is active
+  pub empty_free : (a : TxAttr) (context : Context) (s o : Bool) → opening settings a context ≡ Opening.Empty s o → o ≡ true → s ≡ false → context.syncs ≡ None
+  unfolding opening
+  empty_free a context s o is owns not = empty_in a context context.tx s o is owns not
+
+  -- ---- savepoints
+
+  point_within : (live : Live) (p : Propagation) → is_nested p ≡ false → opening_within settings live p ≡ Opening.Point → ⊥
+  point_within live Propagation.Required other is = cc
+  point_within live Propagation.Supports other is = cc
+  point_within live Propagation.Mandatory other is = cc
+  point_within live Propagation.RequiresNew other is = cc
+  point_within live Propagation.NotSupported other is = cc
+  point_within live Propagation.Never other is = cc
+  point_within live Propagation.Nested other is = absurd (false≢true (sym other))
+
+  point_without : (context : Context) (p : Propagation) → opening_without settings context p ≡ Opening.Point → ⊥
+  point_without context Propagation.Required is = cc
+  point_without context Propagation.Supports is = cc
+  point_without context Propagation.Mandatory is = cc
+  point_without context Propagation.RequiresNew is = cc
+  point_without context Propagation.NotSupported is = cc
+  point_without context Propagation.Never is = cc
+  point_without context Propagation.Nested is = cc
+
+  point_in : (a : TxAttr) (context : Context) (tx : Option Live) → is_nested a.propagation ≡ false → opening_in settings a context tx ≡ Opening.Point → ⊥
+  point_in a context (Some live) other is = point_within live a.propagation other is
+  point_in a context None other is = point_without context a.propagation is
+
+  -- only nested opens a savepoint
+  pub no_point : (a : TxAttr) (context : Context) → is_nested a.propagation ≡ false → opening settings a context ≡ Opening.Point → ⊥
+  unfolding opening
+  no_point a context other is = point_in a context context.tx other is
+
+-- ---- suspension
+
+-- where nothing is carried, suspension changes nothing
+suspended_bare : (st : State) → st.context ≡ bare → st ≡ suspend st
+suspended_bare st is =
+    let at : Context → State = λ context. record { lines = st.lines; context = context; local = st.local; pool = st.pool; store = st.store } in
+    subst (λ context. at context ≡ suspend (at context)) (sym is) refl
+
+pub suspended_either : (b : Bool) (st : State) → (b ≡ false → st.context ≡ bare) → suspended b st ≡ suspend st
+suspended_either true st is = refl
+suspended_either false st is = suspended_bare st (is refl)
+
+-- the opening of this attribute is the one that was found for an equal one
+pub found_for : (settings : Settings) (context : Context) (a b : TxAttr) (r o : Opening) → a ≡ b → r ≡ opening settings a context → r ≡ o → opening settings b context ≡ o
+found_for settings context a b r o same found is = ap (λ a. opening settings a context) (sym same) ∙ sym found ∙ is
+
+-- where the script has no active synchronisation, the client carries none
+pub none_of : (syncs : Option Registrations) → option_map (λ r. r.list) syncs ≡ None → syncs ≡ None
+none_of None is = refl
+none_of (Some r) is = cc

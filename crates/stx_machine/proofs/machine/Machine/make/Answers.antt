@@ -1,0 +1,63 @@
+-- Each statement of a body.
+use Rattle.std.proofs.Common.{◌≡◌, ◌∙◌, Some, sym, ap, subst}
+use Rattle.stx_scenario.specs.declared.scenario.Stmt.{Stmt}
+use Rattle.stx_base.specs.Weight.{rank}
+use Rattle.stx_model.specs.Meanings.{Result, finally}
+use Rattle.stx_model.specs.Rounds.{Proxied, Direct, callback_statement}
+use Rattle.stx_model.specs.Script.{statement, invoked}
+use Rattle.stx_model.specs.Statements.{caught}
+use Rattle.stx_machine.specs.Machine.{later_calls, resume, stack, inside, state_before}
+use Rattle.stx_machine.specs.Sound.{MayMake}
+use Rattle.stx_machine.proofs.RowLaws.{row_is}
+use Rattle.stx_machine.proofs.TopLaws.{calls_at}
+use Rattle.stx_machine.proofs.machine.Machine.make.Goals as goal
+
+pub returns-in-Call-clause-goes : goal.returns-in-Call-clause-goes
+unfolding statement callback_statement
+returns-in-Call-clause-goes c n pool store =
+    let S = c.args.setup.now.scenario in
+    let m = c.args.self.now in
+    let st = state_before m pool store in
+    let caller = c.args.caller in
+    let rest : Result → Result = λ r. later_calls S n m.top (resume S (stack m.frames) r) in
+    let may : MayMake S caller (Stmt.Call c.in-Call.method c.in-Call.catch) = subst (MayMake S caller) c.in-Call.is c.requires.may in
+    ap (λ s. rest (statement S (inside S caller) s st)) c.in-Call.is
+    ∙ ap (λ r. rest (finally r (caught S c.in-Call.catch))) (calls_at S Proxied c.in-Call.method st (rank S caller) may.1)
+    ∙ c.call.ensures.goes n pool store
+
+pub returns-in-This-clause-goes : goal.returns-in-This-clause-goes
+unfolding statement invoked
+returns-in-This-clause-goes c n pool store =
+    let S = c.args.setup.now.scenario in
+    let m = c.args.self.now in
+    let st = state_before m pool store in
+    let caller = c.args.caller in
+    let rest : Result → Result = λ r. later_calls S n m.top (resume S (stack m.frames) r) in
+    let may : MayMake S caller (Stmt.This c.in-This.method c.in-This.catch) = subst (MayMake S caller) c.in-This.is c.requires.may in
+    ap (λ s. rest (statement S (inside S caller) s st)) c.in-This.is
+    ∙ ap (λ r. rest (finally r (caught S c.in-This.catch))) (calls_at S Direct c.in-This.method st (rank S caller) may.1)
+    ∙ c.call_directly.ensures.goes S n pool store
+
+pub returns-in-Throw-clause-goes : goal.returns-in-Throw-clause-goes
+unfolding statement callback_statement
+returns-in-Throw-clause-goes c n pool store =
+    let S = c.args.setup.now.scenario in
+    let m = c.args.self.now in
+    ap (λ s. later_calls S n m.top (resume S (stack m.frames) (statement S (inside S c.args.caller) s (state_before m pool store)))) c.in-Throw.is
+    ∙ c.throw.ensures.goes S n pool store
+
+pub returns-in-Mark-clause-goes : goal.returns-in-Mark-clause-goes
+unfolding statement
+returns-in-Mark-clause-goes c n pool store =
+    let S = c.args.setup.now.scenario in
+    let m = c.args.self.now in
+    ap (λ s. later_calls S n m.top (resume S (stack m.frames) (statement S (inside S c.args.caller) s (state_before m pool store)))) c.in-Mark.is
+    ∙ c.mark.ensures.goes S n pool store
+
+pub returns-in-Some-clause-goes : goal.returns-in-Some-clause-goes
+returns-in-Some-clause-goes c n pool store =
+    let S = c.args.setup.now.scenario in
+    let m = c.args.self.now in
+    ap (λ r. later_calls S n m.top (resume S (stack m.frames) r))
+    (row_is S (inside S c.args.caller) (state_before m pool store) c.args.statement c.in-Some.access c.in-Some.then (sym c.access_of.ensures ∙ c.in-Some.is))
+    ∙ c.want_access.ensures.goes S n pool store

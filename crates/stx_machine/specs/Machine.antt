@@ -1,0 +1,460 @@
+-- What is left of a client's script at each stage of its machine.
+use Rattle.std.specs.Prelude.{◌≡◌, ℕ, ◌+◌, ◌<◌, length, ⊤, ℤ, ◌+ℤ◌, Bool, true, false, List, [], ◌∷◌, ◌++◌, ◌≤◌, drop, reverse, Option, Some, None, unwrap_or}
+use Rattle.std.specs.Option.{option_map}
+use Rattle.stx_scenario.specs.declared.numbers.ClassNo.{ClassNo}
+use Rattle.stx_scenario.specs.declared.numbers.MethodNo.{MethodNo}
+use Rattle.stx_scenario.specs.declared.classes.TheConstants.{CANNOT_GET_JDBC_CONNECTION_EXCEPTION}
+use Rattle.stx_scenario.specs.declared.scenario.Scenario.{Scenario}
+use Rattle.stx_scenario.specs.declared.scenario.Propagation.{Propagation}
+use Rattle.stx_scenario.specs.declared.scenario.Rule.{Rule}
+use Rattle.stx_scenario.specs.declared.scenario.Stmt.{Stmt}
+use Rattle.stx_scenario.specs.declared.scenario.TxAttr.{TxAttr}
+use Rattle.stx_scenario.specs.Rooms.{Room}
+use Rattle.stx_base.specs.declared.call.Want.{Want}
+use Rattle.stx_base.specs.declared.history.Access.{Access}
+use Rattle.stx_base.specs.declared.history.Answer.{Answer}
+use Rattle.stx_base.specs.declared.history.PoolNote.{PoolNote}
+use Rattle.stx_base.specs.declared.history.StoreNote.{StoreNote}
+use Rattle.stx_base.specs.declared.line.Line.{Line}
+use Rattle.stx_base.specs.declared.manager.Action.{Action}
+use Rattle.stx_base.specs.declared.history.Note.{Note}
+use Rattle.stx_base.specs.declared.manager.Kind.{Kind}
+use Rattle.stx_base.specs.Notes.{pool_line, store_line}
+use Rattle.stx_base.specs.Attributes.{attribute}
+use Rattle.stx_base.specs.Weight.{body_of, rank}
+use Rattle.stx_model.specs.Contexts.{Context, Live, bare, without_syncs}
+use Rattle.stx_model.specs.Meanings.{State, Result, Over, Stops, Breaks, Meaning, and_then, finally, with_context, ask, on_take}
+use Rattle.stx_model.specs.Opening.{opening}
+use Rattle.stx_model.specs.Rounds.{Calls, Proxied}
+use Rattle.stx_model.specs.Scopes.{Scope, leaves, acts, ends, begins, opens, fresh_context, in_scope, empty, older_if, resumed, ruled, started_syncs, suspend, suspended}
+use Rattle.stx_model.specs.Scopes.{resume as resume_scope}
+use Rattle.stx_model.specs.Script.{body, unscoped, invoked, calls_below, tops, calls_of}
+use Rattle.stx_model.specs.Statements.{RowAccess, throws, concludes, caught, is_value, unless_busy, access_row, nothing_more, needed, added, in_transaction, on_connection}
+use Rattle.stx_context.specs.Carrying as carrying
+use Rattle.stx_context.specs.Carrying.{Carried, context_of}
+use Rattle.stx_manager.specs.Scopes.{OpenScope}
+use Rattle.stx_frames.specs.declared.frame.Frame.{Frame}
+use Rattle.stx_machine.specs.declared.completion.Intercepted.{Intercepted}
+use Rattle.stx_machine.specs.declared.interception.Interception.{Interception}
+use Rattle.stx_machine.specs.declared.interception.Phase.{Phase}
+use Rattle.stx_machine.specs.declared.machine.Machine.{Machine}
+use Rattle.stx_machine.specs.declared.stage.Bound.{Bound}
+use Rattle.stx_machine.specs.declared.stage.Place.{Place}
+use Rattle.stx_machine.specs.declared.stage.Stage.{Stage}
+use Rattle.stx_machine.specs.declared.stage.Then.{Then}
+
+-- ---- what a stage wants
+
+-- it is done at once
+abbrev pub falls : Stage → Bool
+falls (Stage.Over x) = true
+falls (Stage.Opening m catch) = true
+falls Stage.Completing = true
+falls _ = false
+
+-- memory ran out
+abbrev pub has_failed : Stage → Bool
+has_failed Stage.Failed = true
+has_failed _ = false
+
+-- where an access is made
+abbrev pub want_at : Place → Access → Want
+want_at (Place.Transaction t) = Want.Access t
+want_at (Place.Connection c) = Want.Auto
+
+abbrev pub want_of : Stage → Want
+want_of (Stage.Connecting a d) = Want.Take
+want_of (Stage.Accessing place a d) = want_at place a
+want_of (Stage.Returning c x) = Want.Give c
+want_of Stage.Taking = Want.Take
+want_of (Stage.Beginning c) = Want.Begin
+want_of (Stage.Committing t) = Want.Commit t
+want_of (Stage.RollingBack t) = Want.Rollback t
+want_of (Stage.GivingBack bound) = Want.Give bound.connection
+want_of Stage.Done = Want.Done
+want_of _ = Want.Failed
+
+-- ---- statements on rows
+
+abbrev pub row_access : Place → RowAccess
+row_access (Place.Transaction t) = in_transaction t
+row_access (Place.Connection c) = on_connection c
+
+abbrev pub does : RowAccess → Then → Answer → Meaning
+does at Then.Nothing = nothing_more at
+does at (Then.Need n) = needed at n
+does at (Then.Add k n) = added at k n
+
+-- an access, and then what is done with its answer
+abbrev pub accesses : Place → Access → Then → Meaning
+accesses place a d = access_row (row_access place) a (does (row_access place) d)
+
+-- the same on a connection that is taken first
+abbrev pub connects : Access → Then → Option ℕ → Meaning
+connects a d (Some c) st = accesses (Place.Connection c) a d st
+connects a d None st = throws CANNOT_GET_JDBC_CONNECTION_EXCEPTION st
+
+-- ---- calls
+
+-- how methods are called inside a method
+abbrev pub inside : Scenario → MethodNo → Calls
+inside S m = calls_below S (rank S m)
+
+-- an attribute by default: propagation required, not read-only, and no rules (Spring: the defaults of @Transactional)
+abbrev pub default_attribute : TxAttr
+default_attribute = record { propagation = Propagation.Required; read_only = false; rules = [] }
+
+-- the attribute of a method that has one
+unfoldable pub attribute_of : Scenario → MethodNo → TxAttr
+attribute_of S m = unwrap_or (attribute S m) default_attribute
+
+-- a method's statements from this place on
+abbrev pub statements : Scenario → MethodNo → ℕ → Meaning
+statements S m place = body S (inside S m) (drop place (body_of S m))
+
+-- the opening of a call's scope, and all after it
+abbrev pub opened : Scenario → MethodNo → Meaning
+opened S m st = opens S (inside S m) m (attribute_of S m) (statements S m 0) (opening S.settings (attribute_of S m) st.context) st
+
+-- the begin of a fresh scope on the connection that was taken, if one was
+abbrev pub begun : Scenario → MethodNo → Interception → Option ℕ → Meaning
+begun S m i = begins S (inside S m) m (attribute_of S m) (statements S m 0) i.scope.owns (unwrap_or (option_map context_of i.scope.suspended) bare)
+
+-- ---- frames, the innermost first
+
+abbrev pub Call : Type 0
+Call = Frame Interception
+
+abbrev pub stack : Room Call → List Call
+stack frames = reverse frames.items
+
+-- the scope that an interception of this method stands for
+abbrev pub scope_of : MethodNo → Interception → Scope
+scope_of m i = record { method = m; kind = i.scope.kind; owns = i.scope.owns; older = option_map context_of i.scope.suspended; outer = i.outer }
+
+abbrev pub rest_of : Phase → List Action
+rest_of (Phase.Completing rest x) = rest.now
+rest_of _ = []
+
+abbrev pub thrown_of : Phase → Option ClassNo
+thrown_of (Phase.Completing rest x) = x
+thrown_of _ = None
+
+-- the actions that are left of a completion
+abbrev pub completes : Scenario → MethodNo → Interception → List Action → Meaning
+completes S m i rest = acts S (inside S m) (scope_of m i) rest (thrown_of i.phase)
+
+-- a call after a piece of it that came to r. Before its scope is open, and while it completes, the piece is all of it
+abbrev pub phase_after : Scenario → MethodNo → ℕ → Interception → Phase → Result → Result
+phase_after S m place i Phase.Running r = finally (and_then r (statements S m place)) (ends S (inside S m) (scope_of m i) (attribute_of S m))
+phase_after S m place i _ r = r
+
+abbrev pub call_after : Scenario → MethodNo → ℕ → Option Interception → Result → Result
+call_after S m place None r = finally (and_then r (statements S m place)) (leaves m)
+call_after S m place (Some i) r = phase_after S m place i i.phase r
+
+abbrev pub frame_after : Scenario → Call → Result → Result
+frame_after S (Frame.Body m place catch scope) r = finally (call_after S m place scope r) (caught S catch)
+frame_after S _ r = r
+
+-- the call under way after a piece of its innermost frame that came to r
+unfoldable pub resume : Scenario → List Call → Result → Result
+resume S [] r = r
+resume S (f ∷ fs) r = resume S fs (frame_after S f r)
+
+-- ---- stages
+
+-- the piece that is left of an intercepted call
+abbrev pub of_call : Scenario → MethodNo → Interception → Stage → Meaning
+of_call S m i Stage.Taking st = ask Want.Take (on_take (begun S m i)) st
+of_call S m i (Stage.Beginning c) st = begun S m i (Some c) st
+of_call S m i Stage.Completing st = completes S m i (rest_of i.phase) st
+of_call S m i (Stage.Committing t) st = ask (Want.Commit t) (λ _. completes S m i (rest_of i.phase)) st
+of_call S m i (Stage.RollingBack t) st = ask (Want.Rollback t) (λ _. completes S m i (rest_of i.phase)) st
+of_call S m i (Stage.GivingBack bound) st = ask (Want.Give bound.connection) (λ _. completes S m i (rest_of i.phase)) st
+of_call S m i Stage.Done st = Stops Want.Done st
+of_call S m i _ st = Breaks st
+
+abbrev pub of_top : Scenario → List Call → Stage → Meaning
+of_top S (Frame.Body m place catch (Some i) ∷ fs) stage st = of_call S m i stage st
+of_top S _ Stage.Done st = Stops Want.Done st
+of_top S _ _ st = Breaks st
+
+-- the piece that is left of the innermost frame
+abbrev pub piece : Scenario → List Call → Stage → Meaning
+piece S fs (Stage.Over x) st = Over x st
+piece S fs (Stage.Opening m catch) st = finally (opened S m st) (caught S catch)
+piece S fs (Stage.Connecting a d) st = ask Want.Take (on_take (connects a d)) st
+piece S fs (Stage.Accessing place a d) st = accesses place a d st
+piece S fs (Stage.Returning c x) st = ask (Want.Give c) (λ _. concludes x) st
+piece S fs stage st = of_top S fs stage st
+
+-- ---- a client
+
+-- a bound connection with its transaction, while it is given back
+abbrev pub live_of : Bound → Live
+live_of bound = record { connection = bound.connection; transaction = bound.transaction; read_only = bound.read_only; mark = bound.mark }
+
+-- a connection is bound until it was given back
+abbrev pub context_at : Stage → Carried → Context
+context_at (Stage.GivingBack bound) carried =
+    record {
+      tx = Some (live_of bound);
+      syncs = option_map (λ r. r.list) carried.syncs;
+    }
+context_at _ carried = context_of carried
+
+abbrev pub state_with : Machine → Context → List PoolNote → List StoreNote → State
+state_with m context pool store = record { lines = m.lines.items; context = context; local = m.local; pool = pool; store = store }
+
+-- before these notes
+abbrev pub state_before : Machine → List PoolNote → List StoreNote → State
+state_before m = state_with m (context_of m.context)
+
+abbrev pub state_at : Machine → List PoolNote → List StoreNote → State
+state_at m = state_with m (context_at m.stage m.context)
+
+-- the client's calls after the one at this place
+abbrev pub later_calls : Scenario → ℕ → ℕ → Result → Result
+later_calls S n top r = finally r (λ _. tops S (top + 1) (drop (top + 1) (calls_of S n)))
+
+-- and the calls from this place on
+abbrev pub tops_from : Scenario → ℕ → ℕ → Meaning
+tops_from S n top st = tops S top (drop top (calls_of S n)) st
+
+-- what is left of the script of client n
+abbrev pub run : Scenario → ℕ → Machine → List PoolNote → List StoreNote → Result
+run S n m pool store = later_calls S n m.top (resume S (stack m.frames) (piece S (stack m.frames) m.stage (state_at m pool store)))
+
+-- ---- steps
+
+-- where this piece of the innermost frame was left before, the machine after it is what is left of the script of client n,
+-- whatever notes are still to come
+abbrev pub ComesTo : Scenario → ℕ → Machine → Meaning → Machine → Type 0
+ComesTo S n before meaning after =
+    (pool : List PoolNote) (store : List StoreNote)
+    → later_calls S n before.top (resume S (stack before.frames) (meaning (state_before before pool store))) ≡ run S n after pool store
+
+-- whichever the client is
+abbrev pub Comes : Scenario → Machine → Meaning → Machine → Type 0
+Comes S before meaning after = (n : ℕ) → ComesTo S n before meaning after
+
+-- what is left stays
+abbrev pub Goes : Scenario → ℕ → Machine → Machine → Type 0
+Goes S n before after = (pool : List PoolNote) (store : List StoreNote) → run S n before pool store ≡ run S n after pool store
+
+-- ---- pieces of statements
+
+-- the first access of a statement on a row, and what is done with its answer
+abbrev pub access_in : Stmt → Option (Access × Then)
+access_in (Stmt.Read k) = Some (Access.Read k, Then.Nothing)
+access_in (Stmt.Write k v) = Some (Access.Write k v, Then.Nothing)
+access_in (Stmt.Erase k) = Some (Access.Erase k, Then.Nothing)
+access_in (Stmt.Need k n) = Some (Access.Read k, Then.Need n)
+access_in (Stmt.Add k n) = Some (Access.Read k, Then.Add k n)
+access_in _ = None
+
+-- in the live transaction, if there is one, else on a connection of its own
+abbrev pub row_in : Option Live → Access → Then → Meaning
+row_in (Some live) a d st = accesses (Place.Transaction live.transaction) a d st
+row_in None a d st = ask Want.Take (on_take (connects a d)) st
+
+abbrev pub row_statement_of : Machine → Access → Then → Meaning
+row_statement_of m a d = row_in (context_of m.context).tx a d
+
+-- the end of a statement on a row
+abbrev pub ends_access : Place → Option ClassNo → Meaning
+ends_access place = (row_access place).ends
+
+-- after the answer to an access
+abbrev pub answered : Place → Then → Answer → Meaning
+answered place d answer = unless_busy (row_access place) (does (row_access place) d) answer
+
+-- the sum, if it is a value
+abbrev pub sum_of : ℤ → ℤ → Option ℤ
+sum_of v n = elim (is_value (v +ℤ n)) [ true ↦ Some (v +ℤ n) | false ↦ None ]
+
+-- ---- pieces of calls
+
+-- the class is one that there is
+abbrev pub IsClass : Scenario → Option ClassNo → Type 0
+IsClass S None = ⊤
+IsClass S (Some x) = x.0 < length S.classes
+
+-- a call through the proxy, and what its statement catches
+abbrev pub called : Scenario → MethodNo → Option ClassNo → Meaning
+called S m catch st = finally (invoked S (inside S m) Proxied m st) (caught S catch)
+
+-- a call that opens no scope, and what its statement catches
+abbrev pub entered : Scenario → Line → MethodNo → Option ClassNo → Meaning
+entered S line m catch st = finally (unscoped S (inside S m) line m st) (caught S catch)
+
+-- between two calls, this is what the machine after it leaves of the script of client n
+abbrev pub GoesTo : Scenario → ℕ → Meaning → Machine → Machine → Type 0
+GoesTo S n meaning before after =
+    (pool : List PoolNote) (store : List StoreNote) → meaning (state_before before pool store) ≡ run S n after pool store
+
+-- ---- what falls in each small step
+
+-- a line was said
+abbrev pub IsLonger : Machine → Machine → Type 0
+IsLonger before after = length before.lines.items < length after.lines.items
+
+-- the actions that are left where the innermost call completes
+abbrev pub left_of : Stage → List Call → ℕ
+left_of Stage.Completing (Frame.Body m place catch (Some i) ∷ fs) = length (rest_of i.phase)
+left_of _ _ = 0
+
+abbrev pub left : Machine → ℕ
+left m = left_of m.stage (stack m.frames)
+
+-- a step of what is done at once, before which so many actions were left: a line was said, or nothing is done at once any
+-- more, or fewer actions are left
+pub data Moves (n : ℕ) (before after : Machine) : Type 0 where
+  Says : IsLonger before after → Moves n before after
+  Waits : falls after.stage ≡ false → Moves n before after
+  Shrinks : length before.lines.items ≡ length after.lines.items → left after < n → Moves n before after
+
+-- however many actions were left
+abbrev pub MovesOn : Machine → Machine → Type 0
+MovesOn before after = (n : ℕ) → Moves n before after
+
+-- ---- scopes
+
+-- a scope that was just opened, with the local mark round it
+abbrev pub script_scope : MethodNo → OpenScope → Option Bool → Scope
+script_scope m scope outer = record { method = m; kind = scope.kind; owns = scope.owns; older = option_map context_of scope.suspended; outer = outer }
+
+-- an open scope: its body, and then its end
+abbrev pub started : Scenario → MethodNo → OpenScope → Meaning
+started S m scope st = in_scope S (inside S m) (script_scope m scope st.local) (attribute_of S m) (statements S m 0) st
+
+-- an intercepted call that was just put on top
+abbrev pub new_call : MethodNo → Option ClassNo → OpenScope → Option Bool → Phase → Call
+new_call m catch scope outer phase = Frame.Body m 0 catch (Some (record { scope = scope; outer = outer; phase = phase }))
+
+-- these calls are on top of those before; nothing else changes
+pub record IsPushed (before : Machine) (call : Call) (after : Machine) : Type 0 where
+  pub frames : after.frames.items ≡ before.frames.items ++ call ∷ []
+  pub rest : after ≡ record before { frames = after.frames }
+
+-- what was carried is suspended
+pub record Suspends (before after : Machine) : Type 0 where
+  pub state : (pool : List PoolNote) (store : List StoreNote) → suspend (state_before before pool store) ≡ state_before after pool store
+  pub rest : after ≡ record before { context = carrying.bare; lines = after.lines }
+  pub room : before.lines.spare ≤ after.lines.spare + 1
+  pub longer : length before.lines.items ≤ length after.lines.items
+
+pub record SuspendsIf (suspends : Bool) (before after : Machine) : Type 0 where
+  pub state : (pool : List PoolNote) (store : List StoreNote) → suspended suspends (state_before before pool store) ≡ state_before after pool store
+  pub rest : after ≡ record before { context = after.context; lines = after.lines }
+  pub room : before.lines.spare ≤ after.lines.spare + 1
+  pub longer : length before.lines.items ≤ length after.lines.items
+
+-- an owner of synchronisation starts it
+abbrev pub with_syncs_started : Bool → Context → Context
+with_syncs_started owns context = record { tx = context.tx; syncs = started_syncs owns context.syncs }
+
+-- this is carried again
+pub record Resumes (before : Machine) (older : Carried) (after : Machine) : Type 0 where
+  pub state : (pool : List PoolNote) (store : List StoreNote) → resume_scope (context_of older) (state_before before pool store) ≡ state_before after pool store
+  pub rest : after ≡ record before { context = older; lines = after.lines }
+  pub room : before.lines.spare ≤ after.lines.spare + 1
+  pub longer : length before.lines.items ≤ length after.lines.items
+
+-- the begin of a fresh scope, after the context that was there
+abbrev pub fresh_begun : Scenario → MethodNo → Bool → Context → Option ℕ → Meaning
+fresh_begun S m owns older = begins S (inside S m) m (attribute_of S m) (statements S m 0) owns older
+
+-- an empty scope
+abbrev pub empty_opened : Scenario → MethodNo → Bool → Bool → Meaning
+empty_opened S m suspends owns st = empty S (inside S m) m (attribute_of S m) (statements S m 0) owns (older_if suspends st.context) (suspended suspends st)
+
+-- ---- completion
+
+-- an intercepted call that is put back on top in this phase
+abbrev pub put_back : Intercepted → Phase → Call
+put_back call phase = Frame.Body call.method call.place call.catch (Some (record { scope = call.interception.scope; outer = call.interception.outer; phase = phase }))
+
+-- the call on top, as it was
+abbrev pub on_top : Intercepted → Call
+on_top call = Frame.Body call.method call.place call.catch (Some call.interception)
+
+-- the innermost call is an intercepted one
+abbrev pub IsIntercepting : List Call → Type 0
+IsIntercepting (Frame.Body m place catch (Some i) ∷ fs) = ⊤
+IsIntercepting _ = ⊥
+
+-- what these actions of a call's completion are to its caller
+abbrev pub acts_of : Scenario → Intercepted → List Action → Option ClassNo → Meaning
+acts_of S call rest x st = finally (acts S (inside S call.method) (scope_of call.method call.interception) rest x st) (caught S call.catch)
+
+-- the end of a call's scope, and all after it
+abbrev pub ends_of : Scenario → Intercepted → Option ClassNo → Meaning
+ends_of S call x st = finally (ends S (inside S call.method) (scope_of call.method call.interception) (attribute_of S call.method) x st) (caught S call.catch)
+
+-- the rules' line, where the body threw
+pub record Rules (S : Scenario) (rules : List Rule) (x : Option ClassNo) (before after : Machine) : Type 0 where
+  pub state : (pool : List PoolNote) (store : List StoreNote) → ruled S rules x (state_before before pool store) ≡ state_before after pool store
+  pub rest : after ≡ record before { lines = after.lines }
+  pub room : before.lines.spare ≤ after.lines.spare + 1
+  pub longer : length before.lines.items ≤ length after.lines.items
+
+-- the registrations taken out, where the scope owns them
+abbrev pub ended_syncs : Bool → Context → Context
+ended_syncs true context = without_syncs context
+ended_syncs false context = context
+
+-- the transaction that is bound has this number
+abbrev pub HasTransaction : Option Live → ℕ → Type 0
+HasTransaction (Some live) t = live.transaction ≡ t
+HasTransaction None t = ⊥
+
+pub record ResumesIf (older : Option Carried) (before after : Machine) : Type 0 where
+  pub state : (pool : List PoolNote) (store : List StoreNote) → resumed (option_map context_of older) (state_before before pool store) ≡ state_before after pool store
+  pub rest : after ≡ record before { context = after.context; lines = after.lines }
+  pub room : before.lines.spare ≤ after.lines.spare + 1
+
+-- no line was taken back
+abbrev pub MovesLines : Machine → Machine → Type 0
+MovesLines before after = length before.lines.items ≤ length after.lines.items
+
+-- ---- notes
+
+-- the machine before a line was said
+abbrev pub before_line : Machine → List Line → Machine
+before_line m lines = record m { lines = record (m.lines) { items = lines } }
+
+-- a note of the pool whose line was said takes one machine to the other, whatever notes are still to come and whichever the
+-- client is; likewise a note of the store
+abbrev pub HearsPool : Scenario → PoolNote → Machine → Machine → Type 0
+HearsPool S note before after =
+    (n : ℕ) (lines : List Line) (pool : List PoolNote) (store : List StoreNote)
+    → before.lines.items ≡ lines ++ pool_line note ∷ [] → run S n (before_line before lines) (note ∷ pool) store ≡ run S n after pool store
+
+abbrev pub HearsStore : Scenario → StoreNote → Machine → Machine → Type 0
+HearsStore S note before after =
+    (n : ℕ) (lines : List Line) (pool : List PoolNote) (store : List StoreNote)
+    → before.lines.items ≡ lines ++ store_line note ∷ [] → run S n (before_line before lines) pool (note ∷ store) ≡ run S n after pool store
+
+-- a note takes one machine to the other
+abbrev pub Hears : Scenario → Note → Machine → Machine → Type 0
+Hears S (Note.Pool note) before after = (n : ℕ) (pool : List PoolNote) (store : List StoreNote) → run S n before (note ∷ pool) store ≡ run S n after pool store
+Hears S (Note.Store note) before after = (n : ℕ) (pool : List PoolNote) (store : List StoreNote) → run S n before pool (note ∷ store) ≡ run S n after pool store
+
+-- the innermost call, where its scope found no connection
+abbrev pub finds_none : Scenario → List Call → Meaning
+finds_none S (Frame.Body m place catch (Some i) ∷ fs) st = begun S m i None st
+finds_none S _ st = Breaks st
+
+-- a fresh scope whose transaction just began
+abbrev pub starts_on : Scenario → MethodNo → Interception → ℕ → ℕ → Meaning
+starts_on S m i c t st =
+    in_scope S (inside S m)
+    (record { method = m; kind = Kind.Fresh; owns = i.scope.owns; older = Some (unwrap_or (option_map context_of i.scope.suspended) bare); outer = st.local })
+    (attribute_of S m) (statements S m 0)
+    (with_context (fresh_context c t (attribute_of S m).read_only i.scope.owns) st)
+
+abbrev pub starts : Scenario → List Call → ℕ → ℕ → Meaning
+starts S (Frame.Body m place catch (Some i) ∷ fs) c t st = starts_on S m i c t st
+starts S _ c t st = Breaks st
