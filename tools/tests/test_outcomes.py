@@ -10,8 +10,8 @@ from tools.sources import TOP
 from tools.tests import enumeration
 from tools.tests.stand_in import play
 
-STORED = (TOP / "examples" / "withdrawals.toml", TOP / "examples" / "kept.toml",
-          TOP / "tools" / "tests" / "outcomes" / "audit.toml", TOP / "tools" / "tests" / "outcomes" / "lost_listener.toml")
+STORED = (*(TOP / "examples" / f"{name}.toml" for name in ("withdrawals", "kept", "short_pool")),
+          TOP / "tools" / "tests" / "outcomes" / "lost_listener.toml")
 # A small scenario of enumeration.py, one of whose outcomes comes by a schedule in more than a thousand.
 RARE = 56
 
