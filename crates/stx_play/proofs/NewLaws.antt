@@ -14,7 +14,7 @@ pub new_keeps : (S : Scenario) (pool : Pool) (store : Store) (views : List Clien
 new_keeps S pool store views playable pool_is store_is clients read =
     subst (λ p. KeepsPlay S false p store views) (sym pool_is)
     (subst (λ s. KeepsPlay S false (new_pool S.settings.pool) s views) (sym store_is)
-      (record {
-        playable = playable;
-        going = λ _. record { cores = record { size = refl; facts = refl; pool_legal = tt; store_legal = tt }; clients = clients; reads = read };
-      }))
+    (record {
+      playable = playable;
+      going = λ _. record { cores = record { size = refl; facts = refl; pool_legal = tt; store_legal = tt }; clients = clients; reads = read };
+    }))

@@ -1,6 +1,8 @@
 -- A play as contracts see it, and what turns make of it.
-use Rattle.std.specs.Prelude.{ℕ, ◌<◌, Bool, false, length}
+use Rattle.std.specs.Prelude.{ℕ, ◌<◌, Bool, false, length, slice_get, Option}
 use Rattle.stx_scenario.specs.declared.scenario.Scenario.{Scenario}
+use Rattle.stx_journal.specs.declared.committed.Committed.{Committed}
+use Rattle.stx_journal.specs.Journal.{committed_in}
 pub use Rattle.stx_model.specs.Played.{IsClientDone}
 use Rattle.stx_model.specs.Played.{Turns, no_turns, turn}
 
@@ -18,6 +20,10 @@ with_turn play c = record { scenario = play.scenario; so_far = turn play.scenari
 
 abbrev pub with_turns : PlayView → Turns → PlayView
 with_turns play so_far = record { scenario = play.scenario; so_far = so_far; failed = play.failed }
+
+-- the commit that the store has gained since, if it has one
+abbrev pub newly_committed : PlayView → PlayView → Option Committed
+newly_committed old new = slice_get (committed_in old.scenario.values new.so_far.store) (length (committed_in old.scenario.values old.so_far.store))
 
 -- every client has made all of its calls
 abbrev pub AllDone : Scenario → Turns → Type 0

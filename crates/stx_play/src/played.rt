@@ -1,11 +1,13 @@
 // A play under way: the pool, the store and the clients.
-ghost use Rattle.std.specs.Prelude.{◌≡◌, ◌<◌, ◌↔◌, length, map, false, Some, IfOk, OnOk, IsTrue};
+ghost use Rattle.std.specs.Prelude.{◌≡◌, ◌<◌, ◌↔◌, length, slice_get, map, false, Some, IfOk, OnOk, IsTrue};
 ghost use Rattle.std.specs.List.{range_with_len};
+ghost use Rattle.std.specs.Option.{option_copied};
 ghost use Rattle.stx_model.specs.Faithful.{Faithful};
 ghost use Rattle.stx_model.specs.Playable.{IsPlayable};
 ghost use Rattle.stx_model.specs.Played.{run_out, outcome_of};
 ghost use Rattle.stx_client.specs.View.{new_client, lines_of_script};
-ghost use Rattle.stx_play.specs.Play.{unplayed, with_turn, with_turns, IsClientDone, AllDone};
+ghost use Rattle.stx_journal.specs.Journal.{committed_in};
+ghost use Rattle.stx_play.specs.Play.{unplayed, with_turn, with_turns, newly_committed, IsClientDone, AllDone};
 ghost use Rattle.stx_play.specs.inner.Turning.{HasOneMore, EachEnded, HaveReadNothing};
 
 use crate::turn::take_turn;
@@ -13,6 +15,7 @@ use std::alloc::Global;
 use std::marker::Model;
 use stx_base::{ClientLines, Outcome, Want};
 use stx_client::{Client, Setup};
+use stx_journal::Committed;
 use stx_pool::PoolCore;
 use stx_scenario::{List, NoMemory};
 use stx_store::StoreCore;
@@ -68,16 +71,38 @@ impl<'a> Played<'a> {
         }
     }
 
-    /// Makes one turn of a client: its next shared call, or nothing where it is done.
-    pub fn step(&mut self, alloc: Global, client: u32) -> Result<(), NoMemory>
+    /// Makes one turn of a client: its next shared call, or nothing where it is done. It gives what this call committed.
+    pub fn step(&mut self, alloc: Global, client: u32) -> Result<Option<Committed>, NoMemory>
         requires going { self.old.failed ≡ false }
         requires client { client < length self.old.scenario.clients }
-        ensures { OnOk result (self.new ≡ with_turn self.old client) }
+        ensures turn { OnOk result (self.new ≡ with_turn self.old client) }
+        ensures committed { IfOk result (λ committed. committed ≡ newly_committed self.old self.new) }
     {
         if self.is_done(client) {
-            return Ok(());
+            return Ok(None);
         }
-        self.make_call(alloc, client)
+        let before = self.count_committed();
+        self.make_call(alloc, client)?;
+        self.committed_at(alloc, before)
+    }
+
+    // How many commits there were so far.
+    fn count_committed(&self) -> usize
+        requires { self.now.failed ≡ false }
+        ensures { result ≡ length (committed_in self.now.scenario.values self.now.so_far.store) }
+    {
+        self.store.committed().len()
+    }
+
+    // The commit at a place from 0, if there are so many.
+    fn committed_at(&self, alloc: Global, place: usize) -> Result<Option<Committed>, NoMemory>
+        requires { self.now.failed ≡ false }
+        ensures { IfOk result (λ committed. committed ≡ slice_get (committed_in self.now.scenario.values self.now.so_far.store) place) }
+    {
+        match commit_at(self.store.committed(), place) {
+            Some(committed) => Ok(Some(committed.copy(alloc)?)),
+            None => Ok(None),
+        }
     }
 
     // Makes the call that a client wants. All calls of all clients are bounded by the scenario's weight.
@@ -141,6 +166,12 @@ impl<'a> Played<'a> {
             store: self.store.into_entries(),
         })
     }
+}
+
+fn commit_at(list: &[Committed], place: usize) -> Option<&Committed>
+    ensures { option_copied result ≡ slice_get list.now place }
+{
+    list.get(place)
 }
 
 // The clients of a scenario, each at its first call.

@@ -1,6 +1,7 @@
 // The store itself: its entries, and the calls.
 ghost use Rattle.std.specs.Prelude.{◌≡◌, ◌<◌, IfOk, OnOk, OnErr, IsTrue, IsOk};
 ghost use Rattle.stx_base.specs.Limits.{most_clients};
+ghost use Rattle.stx_journal.specs.Journal.{committed_in};
 ghost use Rattle.stx_base.specs.Histories.{store_notes_of};
 ghost use Rattle.stx_base.specs.Stores.{store_proper};
 ghost use Rattle.stx_base.specs.Notes.{store_call_want, store_call_is_sure};
@@ -296,6 +297,13 @@ impl StoreCore {
             journal: _,
         } = self;
         List::from_vec(entries)
+    }
+
+    /// All commits, in order, each with what it changed.
+    pub fn committed(&self) -> &[Committed]
+        ensures { result.now ≡ committed_in self.now.facts.values self.now.entries }
+    {
+        self.journal.list()
     }
 
     /// The last commit, with what it changed.

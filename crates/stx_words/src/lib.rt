@@ -6,7 +6,9 @@ mod fault;
 mod job;
 mod matches;
 mod options;
+mod run_job;
 
-pub use command::read_words;
+pub use command::{read_run_words, read_words};
 pub use fault::WordsFault;
 pub use job::Job;
+pub use run_job::RunJob;
