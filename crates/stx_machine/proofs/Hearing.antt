@@ -13,9 +13,9 @@ use Rattle.stx_base.specs.declared.history.PoolNote.{PoolNote}
 use Rattle.stx_base.specs.declared.history.StoreNote.{StoreNote}
 use Rattle.stx_base.specs.declared.line.Line.{Line}
 use Rattle.stx_base.specs.declared.manager.Action.{Action}
-use Rattle.stx_base.specs.Notes.{pool_answers, store_answers, store_line}
+use Rattle.stx_base.specs.Notes.{pool_answers, pool_line, store_answers, store_line}
 use Rattle.stx_model.specs.Contexts.{Context}
-use Rattle.stx_model.specs.Meanings.{State, Result, ask, on_access, with_local}
+use Rattle.stx_model.specs.Meanings.{State, Result, Meaning, ask, on_access, with_local}
 use Rattle.stx_model.specs.Rounds.{Calls}
 use Rattle.stx_model.specs.Scopes.{Scope, acts, begins, leaves, resumed}
 use Rattle.stx_model.specs.Statements.{concludes, unless_busy}
@@ -23,11 +23,12 @@ use Rattle.stx_model.proofs.Steady.{asked}
 use Rattle.stx_context.specs.Carrying.{Carried, context_of}
 use Rattle.stx_frames.specs.declared.frame.Frame.{Frame}
 use Rattle.stx_machine.specs.declared.interception.Interception.{Interception}
+use Rattle.stx_machine.specs.declared.machine.Machine.{Machine}
 use Rattle.stx_machine.specs.declared.stage.Bound.{Bound}
 use Rattle.stx_machine.specs.declared.stage.Place.{Place}
 use Rattle.stx_machine.specs.declared.stage.Stage.{Stage}
 use Rattle.stx_machine.specs.declared.stage.Then.{Then}
-use Rattle.stx_machine.specs.Machine.{Call, accesses, answered, want_at, row_access, does, completes, inside, scope_of, rest_of, thrown_of, of_top, finds_none, starts}
+use Rattle.stx_machine.specs.Machine.{Call, accesses, before_line, context_at, later_calls, piece, resume, run, stack, answered, want_at, row_access, does, completes, inside, scope_of, rest_of, thrown_of, of_top, finds_none, starts}
 use Rattle.stx_machine.specs.Sound.{Bond, CallOpens, CallCompletes, GivesLast, is_resumption}
 
 -- ---- the last action
@@ -152,3 +153,29 @@ module _ (S : Scenario) (lines : List Line) (context : Context) (local : Option 
   heard_back (Frame.Round round todo at place x ∷ fs) bound d other last is = absurd last
   heard_back (Frame.Now listener place ∷ fs) bound d other last is = absurd last
   heard_back [] bound d other last is = absurd last
+
+-- ---- a note whose line was said
+
+module _ (S : Scenario) (n : ℕ) (m : Machine) (lines : List Line) (stage : Stage) (pool : List PoolNote) (store : List StoreNote) (meaning : Meaning) (is : m.stage ≡ stage) (context : Context) where
+  abbrev begins_at : List PoolNote → List StoreNote → State
+  begins_at p s = record { lines = lines; context = context_at stage m.context; local = m.local; pool = p; store = s }
+
+  abbrev goes_to : List Line → State
+  goes_to said = record { lines = said; context = context; local = m.local; pool = pool; store = store }
+
+  -- where the piece, with this note to come, means this after the note's line, it is what is left after it
+  pub hears_pool : (note heard : PoolNote) → note ≡ heard → m.lines.items ≡ lines ++ pool_line note ∷ []
+      → piece S (stack m.frames) stage (begins_at (heard ∷ pool) store) ≡ meaning (goes_to (lines ++ pool_line heard ∷ []))
+      → run S n (before_line m lines) (note ∷ pool) store ≡ later_calls S n m.top (resume S (stack m.frames) (meaning (goes_to m.lines.items)))
+  hears_pool note heard same line goes =
+      (λ k. run S n (record (before_line m lines) { stage = is k }) (same k ∷ pool) store)
+      ∙ ap (λ r. later_calls S n m.top (resume S (stack m.frames) r)) goes
+      ∙ ap (λ said. later_calls S n m.top (resume S (stack m.frames) (meaning (goes_to said)))) (ap (λ p. lines ++ pool_line p ∷ []) (sym same) ∙ sym line)
+
+  pub hears_store : (note heard : StoreNote) → note ≡ heard → m.lines.items ≡ lines ++ store_line note ∷ []
+      → piece S (stack m.frames) stage (begins_at pool (heard ∷ store)) ≡ meaning (goes_to (lines ++ store_line heard ∷ []))
+      → run S n (before_line m lines) pool (note ∷ store) ≡ later_calls S n m.top (resume S (stack m.frames) (meaning (goes_to m.lines.items)))
+  hears_store note heard same line goes =
+      (λ k. run S n (record (before_line m lines) { stage = is k }) pool (same k ∷ store))
+      ∙ ap (λ r. later_calls S n m.top (resume S (stack m.frames) r)) goes
+      ∙ ap (λ said. later_calls S n m.top (resume S (stack m.frames) (meaning (goes_to said)))) (ap (λ p. lines ++ store_line p ∷ []) (sym same) ∙ sym line)

@@ -181,4 +181,4 @@ committed_stays_committed S c pool store fresh first rest t n is =
     let once : count (is_end t) (state_of (script S c pool store)).lines ≤ 1 = here.holds.stores.once fresh t in
     let all : count (is_end t) (state_of (script S c pool store)).lines ≡ count (is_end t) first + count (is_end t) (Line.Commit t n ∷ rest) = ap (count (is_end t)) is ∙ count_append (is_end t) first (Line.Commit t n ∷ rest) in
     let this : count (is_end t) (Line.Commit t n ∷ []) ≡ 1 = rw (eq-eqb t t refl, filter) refl in
-    none_rolls_back t rest (omega (arith, once, all, this, count_append (is_end t) (Line.Commit t n ∷ []) rest))
+    none_rolls_back t (first ++ rest) (omega (arith, once, all, this, count_append (is_end t) (Line.Commit t n ∷ []) rest, count_append (is_end t) first rest))

@@ -9,7 +9,7 @@ use Rattle.stx_scenario.specs.declared.scenario.RuleBy.{RuleBy}
 use Rattle.stx_scenario.specs.declared.scenario.Stmt.{Stmt}
 use Rattle.stx_base.specs.declared.history.Answer.{Answer}
 use Rattle.stx_model.proofs.Small.{m, n, p, a, required, requires_new, never, method, plainly, Says}
-use Rattle.stx_model.proofs.Traces.{top, call, call_read_only, call_plain, this, leave, leave_throws, throw, catch, rules_rollback_by, rules_keep_by, open_fresh_sync, open_empty_sync, end_commit, end_rollback, take, give, begin, read, write, auto_read, auto_write, commit, rollback}
+use Rattle.stx_model.proofs.Traces.{top, call, call_read_only, call_plain, this, leave, leave_throws, throw, catch, rules_rollback_by, rules_keep_by, open_fresh_sync, open_empty_sync, end_commit, end_rollback, mark, take, give, begin, read, write, auto_read, auto_write, commit, rollback}
 
 -- ---- calls that open no scope
 
@@ -39,6 +39,20 @@ pub a_failed_call_of_the_same_bean_marks_nothing : Says failed_self_call 0 (
     ∷ end_commit ∷ commit 1 1 ∷ give 1 ∷ leave m ∷ [])
 unfolding Says
 a_failed_call_of_the_same_bean_marks_nothing = refl
+
+-- a mark in such a call is that of the scope round it, and goes on being so after the call
+abbrev marked_self_call : Scenario
+marked_self_call = plainly (
+    method required (Stmt.This n None ∷ Stmt.Read a ∷ [])
+    ∷ method requires_new (Stmt.Mark ∷ [])
+    ∷ [])
+
+pub a_mark_in_a_call_of_the_same_bean_is_that_of_the_scope_round_it : Says marked_self_call 0 (
+    top 0 ∷ call m Propagation.Required ∷ take 1 ∷ begin 1 ∷ open_fresh_sync
+    ∷ this n ∷ mark ∷ leave n ∷ read 1 a Answer.Absent
+    ∷ end_rollback ∷ rollback 1 ∷ give 1 ∷ leave m ∷ [])
+unfolding Says
+a_mark_in_a_call_of_the_same_bean_is_that_of_the_scope_round_it = refl
 
 -- a method without an attribute writes in its caller's transaction
 abbrev plain_call : Scenario

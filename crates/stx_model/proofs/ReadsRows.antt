@@ -24,8 +24,8 @@ use Rattle.stx_model.proofs.ValidRow.{twice, twice_is_valid}
 use Rattle.stx_model.proofs.FlatRows.{written_and_read}
 use Rattle.stx_model.proofs.NoteRows.{Stands}
 use Rattle.stx_model.proofs.ShopRow.{placed}
-use Rattle.stx_model.proofs.Small.{m, a, pool_note, store_note}
-use Rattle.stx_model.proofs.Traces.{top, call, leave, open_fresh_sync, take, give, begin, suspend, resume, register, after_completion_committed}
+use Rattle.stx_model.proofs.Small.{m, n, a, pool_note, store_note}
+use Rattle.stx_model.proofs.Traces.{top, call, leave, open_fresh_sync, take, give, begin, rollback, unbind, bind, suspend, resume, register, after_completion_committed}
 
 -- ---- fresh notes
 
@@ -91,6 +91,17 @@ begins_and_ends_balance = refl
 pub kept_is_unbalanced : ¬ IsBalanced (map connection_bracket (top 0 ∷ take 1 ∷ top 1 ∷ give 1 ∷ []))
 kept_is_unbalanced h = cc
 
+-- nor is a transaction that lives there, or a connection that is unbound there
+pub begun_before_is_unbalanced : ¬ IsBalanced (map transaction_bracket (top 0 ∷ begin 1 ∷ top 1 ∷ rollback 1 ∷ []))
+begun_before_is_unbalanced h = cc
+
+pub unbound_before_is_unbalanced : ¬ IsBalanced (map binding_bracket (top 0 ∷ unbind 1 ∷ top 1 ∷ bind 1 ∷ []))
+unbound_before_is_unbalanced h = cc
+
+-- nor are connections that are given in the order in which they were taken
+pub crossed_is_unbalanced : ¬ IsBalanced (map connection_bracket (top 0 ∷ take 1 ∷ take 2 ∷ give 1 ∷ give 2 ∷ []))
+crossed_is_unbalanced h = cc
+
 -- nor is a transaction that no line ends
 pub unended_is_unbalanced : ¬ IsBalanced (map transaction_bracket (top 0 ∷ begin 1 ∷ []))
 unended_is_unbalanced h = cc
@@ -102,6 +113,9 @@ first_sync = Label.Sync (record { 0 = 0 })
 
 abbrev second_sync : Label
 second_sync = Label.Sync (record { 0 = 1 })
+
+abbrev first_listener : Label
+first_listener = Label.Listener (record { 0 = 0 })
 
 abbrev suspending : List Line → List Line
 suspending inside = top 0 ∷ call m Propagation.RequiresNew ∷ suspend first_sync ∷ suspend second_sync ∷ inside
@@ -116,12 +130,24 @@ resumed_out_of_turn h = cc
 pub left_suspended : ¬ IsResumedInOrder (suspending (resume first_sync ∷ leave m ∷ []))
 left_suspended h = cc
 
+-- a call inside that resumes what the call round it suspended
+pub resumed_inside : ¬ IsResumedInOrder (suspending (call n Propagation.Required ∷ resume first_sync ∷ resume second_sync ∷ leave n ∷ leave m ∷ []))
+resumed_inside h = cc
+
+-- a call that hasn't left where a top-level call begins
+pub left_later : ¬ IsResumedInOrder (top 0 ∷ call m Propagation.Required ∷ top 1 ∷ leave m ∷ [])
+left_later h = cc
+
 pub completed_for_each : IsCompletedOnce first_sync (top 0 ∷ register first_sync ∷ after_completion_committed first_sync ∷ [])
 completed_for_each = once_if_settled first_sync (top 0 ∷ register first_sync ∷ after_completion_committed first_sync ∷ []) refl
 
 -- a completion for a label that isn't registered, or not yet
 pub completed_for_none : ¬ IsCompletedOnce first_sync (top 0 ∷ register second_sync ∷ after_completion_committed first_sync ∷ [])
 completed_for_none h = let no : 1 ≡ 0 = h.all in omega (arith, no)
+
+-- a listener is never a synchronisation, though both have the same number
+pub completed_for_a_listener : ¬ IsCompletedOnce first_sync (top 0 ∷ register first_sync ∷ after_completion_committed first_listener ∷ [])
+completed_for_a_listener h = let no : 0 ≡ 1 = h.all in omega (arith, no)
 
 pub completed_early : ¬ IsCompletedOnce first_sync (after_completion_committed first_sync ∷ register first_sync ∷ [])
 completed_early h = let no : 1 ≤ 0 = h.never_more (after_completion_committed first_sync ∷ []) (register first_sync ∷ []) refl in omega (arith, no)

@@ -106,10 +106,11 @@ abbrev pub ResumesInOrder : Type 0
 ResumesInOrder = (S : Scenario) (c : ℕ) (pool : List PoolNote) (store : List StoreNote) (end : State) → script S c pool store ≡ Stops Want.Done end
     → IsResumedInOrder end.lines
 
--- where no transaction number is begun twice: after the line of a transaction's commit no line is its rollback
+-- where no transaction number is begun twice: beside the line of a transaction's commit no line, before it or after it, is
+-- its rollback
 abbrev pub CommittedStaysCommitted : Type 0
 CommittedStaysCommitted = (S : Scenario) (c : ℕ) (pool : List PoolNote) (store : List StoreNote) → BeginsFresh store
-    → (first rest : List Line) (t n : ℕ) → (state_of (script S c pool store)).lines ≡ first ++ Line.Commit t n ∷ rest → list_any (is_rollback t) rest ≡ false
+    → (first rest : List Line) (t n : ℕ) → (state_of (script S c pool store)).lines ≡ first ++ Line.Commit t n ∷ rest → list_any (is_rollback t) (first ++ rest) ≡ false
 
 -- a script that is done and leaves no note unread has given back what it took and ended what it began
 abbrev pub GivesAllBack : Type 0

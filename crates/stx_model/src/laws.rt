@@ -71,8 +71,9 @@ pub fn committed_stays_said()
 
 /// Calls leave the context as it was. After a call of a method with an attribute, however it ends, the connection, the
 /// transaction, its mark and the registrations are those before it, but that a joined scope may have marked the
-/// transaction, and that a joined scope, a savepoint (also one that went back) and an empty scope that owns no
-/// synchronisation may have added registrations at the end. The scope round it has the local mark that it had.
+/// transaction, and that a joined scope, a savepoint (also one that went back) and an empty scope that neither owns
+/// synchronisation nor suspended anything may have added registrations at the end. The scope round it has the local mark
+/// that it had.
 pub fn calls_leave_the_context()
     ensures { CallsLeaveTheContext }
 {}
@@ -108,8 +109,8 @@ pub fn resumes_in_order()
     ensures { ResumesInOrder }
 {}
 
-/// A committed transaction stays committed. Where no transaction number is begun twice, as in a legal history, no line after
-/// a transaction's commit is its rollback: nothing that a callback or a caller throws later takes a commit back.
+/// A committed transaction stays committed. Where no transaction number is begun twice, as in a legal history, lines that
+/// have a transaction's commit have no rollback of it: nothing that a callback or a caller throws later takes a commit back.
 pub fn committed_stays_committed()
     ensures { CommittedStaysCommitted }
 {}

@@ -1,31 +1,27 @@
 -- Each note of the pool, at the stage that wants it.
-use Rattle.std.proofs.Common.{◌≡◌, ◌∙◌, ◌++◌, ◌∷◌, [], ℕ, List, Some, None, true, sym, ap, subst, arith}
+use Rattle.std.proofs.Common.{◌∙◌, refl, sym, subst, arith}
 use Rattle.stx_scenario.specs.declared.classes.TheConstants.{CANNOT_GET_JDBC_CONNECTION_EXCEPTION}
-use Rattle.stx_base.specs.declared.call.Want.{Want}
 use Rattle.stx_base.specs.declared.history.Note.{Note}
 use Rattle.stx_base.specs.declared.history.PoolNote.{PoolNote}
-use Rattle.stx_base.specs.declared.line.Line.{Line}
-use Rattle.stx_base.specs.Notes.{pool_line, pool_answers}
-use Rattle.stx_model.specs.Meanings.{State, Result, ask}
+use Rattle.stx_base.specs.Notes.{pool_answers}
+use Rattle.stx_model.specs.Meanings.{ask}
 use Rattle.stx_model.specs.Statements.{concludes, throws}
 use Rattle.stx_context.specs.Carrying.{context_of}
 use Rattle.stx_machine.specs.declared.stage.Place.{Place}
 use Rattle.stx_machine.specs.declared.stage.Stage.{Stage}
-use Rattle.stx_machine.specs.Machine.{later_calls, resume, stack, accesses, before_line, context_at, finds_none, of_top, run, want_of}
-use Rattle.stx_machine.specs.Sound.{IsSound, CallOpens, StageFits, Unbound, brought, held_out, no_tokens}
-use Rattle.stx_machine.proofs.Hearing.{heard_given, heard_taken, heard_empty, heard_back}
+use Rattle.stx_machine.specs.Machine.{stack, accesses, context_at, finds_none, of_top, want_of}
+use Rattle.stx_machine.specs.Sound.{IsSound, StageFits, Unbound, brought, held_out, no_tokens}
+use Rattle.stx_machine.proofs.Hearing.{hears_pool, heard_given, heard_taken, heard_empty, heard_back}
 use Rattle.stx_machine.proofs.Places.{built_in_known}
 use Rattle.stx_machine.proofs.machine.Machine.hear_pool.Goals as goal
 
 pub returns-in-Connecting-Taken-clause-goes : goal.returns-in-Connecting-Taken-clause-goes
 unfolding ask
 returns-in-Connecting-Taken-clause-goes c n lines pool store line =
-    let S = c.args.setup.now.scenario in
     let m = c.args.self.now in
     let w = c.in-Connecting-Taken in
-    let st : List Line → State = λ ls. record { lines = ls; context = context_of m.context; local = m.local; pool = pool; store = store } in
-    (λ k. run S n (record (before_line m lines) { stage = w.is-0 k }) (w.is-1 k ∷ pool) store)
-    ∙ ap (λ ls. later_calls S n m.top (resume S (stack m.frames) (accesses (Place.Connection w.connection) w.access w.then (st ls)))) (ap (λ p. lines ++ pool_line p ∷ []) (sym w.is-1) ∙ sym line)
+    hears_pool c.args.setup.now.scenario n m lines (Stage.Connecting w.access w.then) pool store (accesses (Place.Connection w.connection) w.access w.then)
+    w.is-0 (context_of m.context) c.args.note (PoolNote.Taken w.connection) w.is-1 line refl
 
 pub returns-in-Connecting-Empty-clause-goes : goal.returns-in-Connecting-Empty-clause-goes
 unfolding ask
@@ -33,9 +29,8 @@ returns-in-Connecting-Empty-clause-goes c n lines pool store line =
     let S = c.args.setup.now.scenario in
     let m = c.args.self.now in
     let w = c.in-Connecting-Empty in
-    let st : List Line → State = λ ls. record { lines = ls; context = context_of m.context; local = m.local; pool = pool; store = store } in
-    (λ k. run S n (record (before_line m lines) { stage = w.is-0 k }) (w.is-1 k ∷ pool) store)
-    ∙ ap (λ ls. later_calls S n m.top (resume S (stack m.frames) (throws CANNOT_GET_JDBC_CONNECTION_EXCEPTION (st ls)))) (ap (λ p. lines ++ pool_line p ∷ []) (sym w.is-1) ∙ sym line)
+    hears_pool S n m lines (Stage.Connecting w.access-0 w.then-0) pool store (throws CANNOT_GET_JDBC_CONNECTION_EXCEPTION)
+    w.is-0 (context_of m.context) c.args.note PoolNote.Empty w.is-1 line refl
     ∙ c.throw.ensures.goes S n pool store
 
 pub returns-in-Connecting-Empty-clause-sound : goal.returns-in-Connecting-Empty-clause-sound
@@ -53,11 +48,9 @@ returns-in-Returning-Given-clause-goes c n lines pool store line =
     let S = c.args.setup.now.scenario in
     let m = c.args.self.now in
     let w = c.in-Returning-Given in
-    let st : List Line → State = λ ls. record { lines = ls; context = context_of m.context; local = m.local; pool = pool; store = store } in
     let suits = (λ k. pool_answers (want_of (sym w.is-0 k)) (sym w.is-1 k)) ∙ c.requires.answers in
-    (λ k. run S n (record (before_line m lines) { stage = w.is-0 k }) (w.is-1 k ∷ pool) store)
-    ∙ ap (λ r. later_calls S n m.top (resume S (stack m.frames) r)) (heard_given S lines (context_of m.context) m.local pool store _ _ w.thrown suits)
-    ∙ ap (λ ls. later_calls S n m.top (resume S (stack m.frames) (concludes w.thrown (st ls)))) (ap (λ p. lines ++ pool_line p ∷ []) (sym w.is-1) ∙ sym line)
+    hears_pool S n m lines _ pool store (concludes w.thrown) w.is-0 (context_of m.context) c.args.note _ w.is-1 line
+    (heard_given S lines (context_of m.context) m.local pool store _ _ w.thrown suits)
     ∙ c.conclude.ensures.goes S n pool store
 
 pub returns-in-Taking-Taken-clause-goes : goal.returns-in-Taking-Taken-clause-goes
@@ -65,24 +58,18 @@ returns-in-Taking-Taken-clause-goes c n lines pool store line =
     let S = c.args.setup.now.scenario in
     let m = c.args.self.now in
     let w = c.in-Taking-Taken in
-    let fs = stack m.frames in
-    let st : List Line → State = λ ls. record { lines = ls; context = context_of m.context; local = m.local; pool = pool; store = store } in
-    let opens = subst (λ s. StageFits S s m.context fs) w.is-0 c.requires.sound.stage in
-    (λ k. run S n (record (before_line m lines) { stage = w.is-0 k }) (w.is-1 k ∷ pool) store)
-    ∙ ap (λ r. later_calls S n m.top (resume S fs r)) (heard_taken S lines (context_of m.context) m.local pool store fs Unbound w.connection opens.1)
-    ∙ ap (λ ls. later_calls S n m.top (resume S fs (of_top S fs (Stage.Beginning w.connection) (st ls)))) (ap (λ p. lines ++ pool_line p ∷ []) (sym w.is-1) ∙ sym line)
+    let opens = subst (λ s. StageFits S s m.context (stack m.frames)) w.is-0 c.requires.sound.stage in
+    hears_pool S n m lines Stage.Taking pool store (of_top S (stack m.frames) (Stage.Beginning w.connection)) w.is-0 (context_of m.context) c.args.note (PoolNote.Taken w.connection) w.is-1 line
+    (heard_taken S lines (context_of m.context) m.local pool store (stack m.frames) Unbound w.connection opens.1)
 
 pub returns-in-Taking-Empty-clause-goes : goal.returns-in-Taking-Empty-clause-goes
 returns-in-Taking-Empty-clause-goes c n lines pool store line =
     let S = c.args.setup.now.scenario in
     let m = c.args.self.now in
     let w = c.in-Taking-Empty in
-    let fs = stack m.frames in
-    let st : List Line → State = λ ls. record { lines = ls; context = context_of m.context; local = m.local; pool = pool; store = store } in
-    let opens = subst (λ s. StageFits S s m.context fs) w.is-0 c.requires.sound.stage in
-    (λ k. run S n (record (before_line m lines) { stage = w.is-0 k }) (w.is-1 k ∷ pool) store)
-    ∙ ap (λ r. later_calls S n m.top (resume S fs r)) (heard_empty S lines (context_of m.context) m.local pool store fs Unbound opens.1)
-    ∙ ap (λ ls. later_calls S n m.top (resume S fs (finds_none S fs (st ls)))) (ap (λ p. lines ++ pool_line p ∷ []) (sym w.is-1) ∙ sym line)
+    let opens = subst (λ s. StageFits S s m.context (stack m.frames)) w.is-0 c.requires.sound.stage in
+    hears_pool S n m lines Stage.Taking pool store (finds_none S (stack m.frames)) w.is-0 (context_of m.context) c.args.note PoolNote.Empty w.is-1 line
+    (heard_empty S lines (context_of m.context) m.local pool store (stack m.frames) Unbound opens.1)
     ∙ c.give_up_opening.ensures.goes S opens.1 n pool store
 
 pub returns-in-GivingBack-Given-clause-goes : goal.returns-in-GivingBack-Given-clause-goes
@@ -90,11 +77,8 @@ returns-in-GivingBack-Given-clause-goes c n lines pool store line =
     let S = c.args.setup.now.scenario in
     let m = c.args.self.now in
     let w = c.in-GivingBack-Given in
-    let fs = stack m.frames in
-    let st : List Line → State = λ ls. record { lines = ls; context = context_of m.context; local = m.local; pool = pool; store = store } in
-    let fits = subst (λ s. StageFits S s m.context fs) w.is-0 c.requires.sound.stage in
+    let bound = w.field-0-0 in
+    let fits = subst (λ s. StageFits S s m.context (stack m.frames)) w.is-0 c.requires.sound.stage in
     let suits = (λ k. pool_answers (want_of (sym w.is-0 k)) (sym w.is-1 k)) ∙ c.requires.answers in
-    (λ k. run S n (record (before_line m lines) { stage = w.is-0 k }) (w.is-1 k ∷ pool) store)
-    ∙ ap (λ r. later_calls S n m.top (resume S fs r))
-    (heard_back S lines (context_at (Stage.GivingBack w.field-0-0) m.context) m.local pool store fs w.field-0-0 w.field-0-1 (context_of m.context) fits.1 suits)
-    ∙ ap (λ ls. later_calls S n m.top (resume S fs (of_top S fs Stage.Completing (st ls)))) (ap (λ p. lines ++ pool_line p ∷ []) (sym w.is-1) ∙ sym line)
+    hears_pool S n m lines (Stage.GivingBack bound) pool store (of_top S (stack m.frames) Stage.Completing) w.is-0 (context_of m.context) c.args.note (PoolNote.Given w.field-0-1) w.is-1 line
+    (heard_back S lines (context_at (Stage.GivingBack bound) m.context) m.local pool store (stack m.frames) bound w.field-0-1 (context_of m.context) fits.1 suits)
