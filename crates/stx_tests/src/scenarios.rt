@@ -14,10 +14,6 @@ const SMALLEST: &str =
 const VARIED: &str =
     "events=[\"e\"]\nrows=[{name=\"c\",value=7}]\nbeans=[{name=\"b\"}]\nmethods=[{bean=\"b\",name=\"m\",tx={},body=[\"read a\",\"read d\"]}]\nsyncs=[{name=\"s\"}]\nlisteners=[{name=\"l\",event=\"e\"}]\nclients=[{calls=[\"b.m\"]},{calls=[]},{calls=[]}]\n";
 
-/// Two clients, each with a transaction that writes two rows of its own.
-const TWO_WRITERS: &str =
-    "beans=[{name=\"b\"}]\nmethods=[{bean=\"b\",name=\"m\",tx={},body=[\"write a 1\",\"write c 1\"]},{bean=\"b\",name=\"n\",tx={},body=[\"write b 1\",\"write d 1\"]}]\nclients=[{calls=[\"b.m\"]},{calls=[\"b.n\"]}]\n";
-
 pub fn smallest(alloc: Global) -> Result<Scenario, ReadFault>
     ensures { IfOk result (λ scenario. IsValid scenario) }
 {
@@ -26,10 +22,4 @@ pub fn smallest(alloc: Global) -> Result<Scenario, ReadFault>
 
 pub fn varied(alloc: Global) -> Result<Scenario, ReadFault> {
     read_scenario(alloc, VARIED.as_bytes())
-}
-
-pub fn two_writers(alloc: Global) -> Result<Scenario, ReadFault>
-    ensures { IfOk result (λ scenario. IsValid scenario) }
-{
-    read_scenario(alloc, TWO_WRITERS.as_bytes())
 }
