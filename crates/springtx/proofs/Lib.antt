@@ -1,3 +1,2 @@
 pub mod ToolLaws
-pub mod PlayableLaws
 pub mod ValidLaws

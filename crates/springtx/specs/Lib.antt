@@ -1,2 +1,1 @@
-pub mod NotYet
 pub mod Tool

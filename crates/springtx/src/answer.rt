@@ -1,68 +1,60 @@
-// The text that answers a job and a scenario's bytes, made whole before anything is written.
-ghost use Rattle.std.specs.Prelude.{◌≡◌, ◌≢◌, IfOk, OnOk, None, true};
-ghost use Rattle.stx_scenario.specs.Memory.{no_memory};
+// The text that answers a job and its input, made whole before anything is written.
+ghost use Rattle.std.specs.Prelude.{◌≡◌, IfOk, OnOk, true};
 ghost use Rattle.stx_model.specs.Faithful.{Faithful};
+ghost use Rattle.stx_model.specs.Playable.{IsPlayable};
 ghost use Rattle.stx_base.specs.Report.{printed};
 ghost use Rattle.stx_base.specs.RulesText.{rules_text as text_of_rules};
 ghost use Rattle.stx_base.specs.Weight.{weight as weight_in};
 ghost use Rattle.stx_judge.specs.Judge.{IsValid};
-ghost use Rattle.stx_refusals.specs.Refusals.{refusal_text as text_of_refusal};
 ghost use Rattle.stx_words.specs.Jobs.{is_built};
-ghost use Rattle.springtx.specs.NotYet.{not_yet as first_not_yet};
-ghost use Rattle.springtx.specs.Tool.{IsAnswerTo, IsPlayAnswer, IsTellingAnswer, check_text as text_of_check, own_play};
+ghost use Rattle.springtx.specs.Tool.{IsAnswerTo, check_text as text_of_check, needs_input as job_needs_input, own_play};
 
-use crate::not_yet::{not_yet, not_yet_text};
 use std::alloc::Global;
 use stx_base::Report;
 use stx_client::Setup;
 use stx_graph::{Graph, GraphFault};
 use stx_play::play;
-use stx_read::{ReadFault, read_scenario};
-use stx_report::{check_text, print, refusal_text, rules_text};
+use stx_report::{check_text, print, rules_text};
 use stx_scenario::{NoMemory, Scenario};
+use stx_tool::{Answer, Reading, read, read_to_play};
 use stx_words::Job;
 
-/// What the tool answers.
-#[derive(Debug, Drop)]
-pub enum Answer {
-    /// The job was done: what is reported, if anything, and the text.
-    Done(Option<Report>, Vec<u8>),
-    /// It was refused: the refusal's text.
-    Refused(Vec<u8>),
+/// Whether a job reads a scenario, and generates none.
+pub fn needs_input(job: Job) -> bool
+    ensures { result ≡ job_needs_input job }
+{
+    !matches!(job, Job::Load { .. })
 }
 
 /// Reads a scenario and does the job with it, or says why not.
+#[tactic(auto, using(crate::proofs::ToolLaws::play_is_done, crate::proofs::ToolLaws::check_is_done, crate::proofs::ToolLaws::rules_is_done))]
 pub fn answer_to(alloc: Global, job: Job, bytes: &[u8]) -> Result<Answer, NoMemory>
     requires { is_built job ≡ true }
     ensures { IfOk result (λ answer. IsAnswerTo job bytes.now answer) }
 {
-    match read_scenario(alloc, bytes) {
-        Ok(scenario) => match job {
-            Job::Play => play_answer(alloc, scenario),
-            Job::Check => check_answer(alloc, &scenario),
-            Job::Rules => rules_answer(alloc, scenario),
-            Job::Load { .. } => unreachable!(),
+    match job {
+        Job::Play => match read_to_play(alloc, bytes)? {
+            Reading::Accepted(scenario) => {
+                let (report, text) = played(alloc, scenario)?;
+                Ok(Answer::Done(Some(report), text))
+            }
+            Reading::Refused(text) => Ok(Answer::Refused(text)),
         },
-        Err(fault) => Ok(Answer::Refused(refusal(alloc, &fault)?)),
+        Job::Check => match read(alloc, bytes)? {
+            Reading::Accepted(scenario) => Ok(Answer::Done(None, checked(alloc, &scenario)?)),
+            Reading::Refused(text) => Ok(Answer::Refused(text)),
+        },
+        Job::Rules => match read(alloc, bytes)? {
+            Reading::Accepted(scenario) => Ok(Answer::Done(None, decided(alloc, scenario)?)),
+            Reading::Refused(text) => Ok(Answer::Refused(text)),
+        },
+        Job::Load { .. } => unreachable!(),
     }
-}
-
-/// Plays a valid scenario by its own schedule, if all of its forms are built.
-fn play_answer(alloc: Global, scenario: Scenario) -> Result<Answer, NoMemory>
-    requires { IsValid scenario }
-    ensures { IfOk result (λ answer. IsPlayAnswer scenario answer) }
-{
-    if let Some(path) = not_yet(alloc, &scenario)? {
-        return Ok(Answer::Refused(not_yet_text(alloc, &path)?));
-    }
-    let (report, text) = played(alloc, scenario)?;
-    Ok(Answer::Done(Some(report), text))
 }
 
 /// Plays a scenario by its own schedule, and makes its report's text.
 fn played(alloc: Global, scenario: Scenario) -> Result<(Report, Vec<u8>), NoMemory>
-    requires valid { IsValid scenario }
-    requires built { first_not_yet scenario ≡ None }
+    requires { IsPlayable scenario }
     ensures report { IfOk result (λ played. played.0 ≡ record { scenario = scenario; outcome = own_play scenario }) }
     ensures faithful { OnOk result (Faithful scenario (own_play scenario)) }
     ensures text { IfOk result (λ played. played.1.items ≡ printed scenario (own_play scenario)) }
@@ -76,22 +68,21 @@ fn played(alloc: Global, scenario: Scenario) -> Result<(Report, Vec<u8>), NoMemo
 }
 
 /// Tells the weight of a valid scenario.
-fn check_answer(alloc: Global, scenario: &Scenario) -> Result<Answer, NoMemory>
+fn checked(alloc: Global, scenario: &Scenario) -> Result<Vec<u8>, NoMemory>
     requires { IsValid scenario.now }
-    ensures { IfOk result (λ answer. IsTellingAnswer (text_of_check scenario.now) answer) }
+    ensures { IfOk result (λ text. text.items ≡ text_of_check scenario.now) }
 {
     let weight = weight_of(alloc, scenario)?;
-    Ok(Answer::Done(None, check_text(alloc, weight)?))
+    check_text(alloc, weight)
 }
 
 /// Tells what the rules of each method of a valid scenario decide.
-fn rules_answer(alloc: Global, scenario: Scenario) -> Result<Answer, NoMemory>
+fn decided(alloc: Global, scenario: Scenario) -> Result<Vec<u8>, NoMemory>
     requires { IsValid scenario }
-    ensures { IfOk result (λ answer. IsTellingAnswer (text_of_rules scenario) answer) }
+    ensures { IfOk result (λ text. text.items ≡ text_of_rules scenario) }
 {
     let setup = Setup::new(alloc, scenario)?;
-    let text = rules_text(alloc, &setup.scenario, &setup.classes, &setup.attributes)?;
-    Ok(Answer::Done(None, text))
+    rules_text(alloc, &setup.scenario, &setup.classes, &setup.attributes)
 }
 
 /// The weight of a valid scenario.
@@ -106,15 +97,4 @@ fn weight_of(alloc: Global, scenario: &Scenario) -> Result<u64, NoMemory>
         Err(GraphFault::TooLarge) => unreachable!(),
         Err(GraphFault::NoMemory(refused)) => Err(refused),
     }
-}
-
-/// The text of a refusal. For want of memory there is none.
-fn refusal(alloc: Global, fault: &ReadFault) -> Result<Vec<u8>, NoMemory>
-    ensures text { IfOk result (λ text. text.items ≡ text_of_refusal fault.now) }
-    ensures refused { OnOk result (fault.now ≢ ReadFault.NoMemory no_memory) }
-{
-    if let ReadFault::NoMemory(refused) = fault {
-        return Err(*refused);
-    }
-    refusal_text(alloc, fault)
 }

@@ -2,35 +2,25 @@
 ghost use Rattle.std.specs.Prelude.{◌≡◌, ◌≢◌, ◌⊎◌, List, ℕ, IsTrue, None, Some, IsNone};
 ghost use Rattle.stx_scenario.specs.declared.limits.TheConstants.{MOST_INPUT_BYTES as MostBytes};
 ghost use Rattle.stx_outside.specs.Streams.{Rose, GainsEnd, GainsPrefix, LosesMore, LosesWithin};
+ghost use Rattle.stx_tool.specs.Ends.{is_status, is_early};
 ghost use Rattle.stx_words.specs.Jobs.{job_of};
-ghost use Rattle.springtx.specs.Tool.{is_status, is_early, IsAnswered, IsDone, IsRefused, IsCutShort, IsAccepted};
+ghost use Rattle.springtx.specs.Tool.{IsAnswered, IsDone, IsRefused, IsCutShort, IsAccepted};
 
-use crate::answer::{Answer, answer_to};
+use crate::answer::{answer_to, needs_input};
 use std::alloc::Global;
-use stx_base::{Report, ToolEnd};
-use stx_outside::{ReadEnd, Sink, Source, read_whole, write_whole};
-use stx_scenario::{MOST_INPUT_BYTES, NoMemory};
+use stx_base::ToolEnd;
+use stx_outside::{ReadEnd, Sink, Source};
+use stx_tool::{
+    Answer, READ_FAULT, TOO_LONG, USAGE, early, read_input, without_memory, write_done,
+    write_refused,
+};
 use stx_words::{WordsFault, read_words};
-
-const DONE: u8 = 0;
-
-pub(crate) const USAGE: u8 = 2;
-
-const READ_FAULT: u8 = 3;
-
-const REFUSED: u8 = 4;
-
-const WRITE_FAULT: u8 = 5;
-
-pub(crate) const WANT_OF_MEMORY: u8 = 6;
-
-const TOO_LONG: u8 = 7;
 
 /// Does the job that the words state with the scenario that a source holds, and writes its text to a sink. It waits for
 /// nobody.
 ///
 /// The whole text is made before the first write. The statuses of the end are those of `ToolEnd`.
-#[tactic(auto, using(crate::proofs::ToolLaws::none_within))]
+#[tactic(auto, using(stx_tool::proofs::InputLaws::none_within, crate::proofs::ToolLaws::all_read))]
 pub fn tool<S: Source, K: Sink>(
     alloc: Global,
     words: &[String],
@@ -79,52 +69,15 @@ pub fn tool<S: Source, K: Sink>(
         Err(WordsFault::Usage) => return early(USAGE),
         Err(WordsFault::NoMemory(refused)) => return without_memory(refused),
     };
-    let bytes = match read_whole(alloc, source, MOST_INPUT_BYTES) {
+    let bytes = match read_input(alloc, source, needs_input(job)) {
         Ok(bytes) => bytes,
         Err(ReadEnd::Fault) => return early(READ_FAULT),
         Err(ReadEnd::TooLong) => return early(TOO_LONG),
         Err(ReadEnd::NoMemory(refused)) => return without_memory(refused),
     };
     match answer_to(alloc, job, &bytes) {
-        Ok(Answer::Done(report, text)) => ToolEnd {
-            status: written(sink, &text, DONE),
-            report,
-        },
-        Ok(Answer::Refused(text)) => ToolEnd {
-            status: written(sink, &text, REFUSED),
-            report: None,
-        },
+        Ok(Answer::Done(report, text)) => write_done(sink, report, &text),
+        Ok(Answer::Refused(text)) => write_refused(sink, &text),
         Err(refused) => without_memory(refused),
-    }
-}
-
-/// Writes a text whole, and gives this status, or that of a failed write.
-fn written<K: Sink>(sink: &mut K, text: &[u8], status: u8) -> u8
-    requires { status ≢ 5 }
-    ensures whole { result ≡ status → GainsEnd (K.taken sink.old) (K.taken sink.new) text.now }
-    ensures other { result ≢ status → result ≡ 5 }
-    ensures fault { result ≡ 5 → Rose (K.faults sink.old) (K.faults sink.new) }
-    ensures prefix { result ≡ 5 → GainsPrefix (K.taken sink.old) (K.taken sink.new) text.now }
-{
-    match write_whole(sink, text) {
-        Ok(()) => status,
-        Err(_) => WRITE_FAULT,
-    }
-}
-
-/// The end for want of memory, which wants a refused growth.
-fn without_memory(_: NoMemory) -> ToolEnd
-    ensures { result ≡ record { status = 6; report = None } }
-{
-    early(WANT_OF_MEMORY)
-}
-
-/// An end before anything is written.
-fn early(status: u8) -> ToolEnd
-    ensures { result ≡ record { status = status; report = None } }
-{
-    ToolEnd {
-        status,
-        report: None,
     }
 }

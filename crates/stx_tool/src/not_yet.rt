@@ -2,7 +2,7 @@
 ghost use Rattle.std.specs.Prelude.{◌≡◌, ◌<◌, IfOk, IfSome, length, slice_get, Some, None};
 ghost use Rattle.std.specs.Option.{option_or};
 ghost use Rattle.stx_model.specs.Built.{is_built as built_test, is_nested as nested_test};
-ghost use Rattle.springtx.specs.NotYet.{not_yet as first_not_yet, bean_not_yet as bean_place, method_not_yet as method_place, tx_not_yet as tx_place, statement_not_yet as statement_place, first_from, not_yet_text as text_of};
+ghost use Rattle.stx_tool.specs.NotYet.{not_yet as first_not_yet, bean_not_yet as bean_place, method_not_yet as method_place, tx_not_yet as tx_place, statement_not_yet as statement_place, first_from, not_yet_text as text_of};
 
 use std::alloc::Global;
 use stx_refusals::{Argument, entry, under};

@@ -1,19 +1,23 @@
--- Where no place is found that isn't played yet, each form is built.
-use Rattle.std.proofs.Common.{◌≡◌, ℕ, zero, suc, ◌+◌, Bool, true, false, List, [], ◌∷◌, length, Option, Some, None, refl, subst, arith}
-use Rattle.std.specs.Prelude.{slice_get, IfSome, codes, not}
+-- Where no place is found that isn't played yet, each form is built, and what is valid is playable.
+use Rattle.std.proofs.Common.{◌≡◌, ℕ, zero, suc, ◌+◌, Bool, true, false, List, [], ◌∷◌, Option, Some, None, refl, subst, arith}
+use Rattle.std.specs.Prelude.{slice_get, IfSome, codes, not, Result, Ok, Err}
 use Rattle.std.specs.Option.{option_or, option_and_then}
-use Rattle.std.specs.List.{All, AllPass}
+use Rattle.std.specs.List.{All}
 use Rattle.std.proofs.lemmas.List.Elements.{All-nil, All-cons}
 use Rattle.std.proofs.lemmas.Option.{slice_get_within}
 use Rattle.stx_scenario.specs.declared.scenario.Scenario.{Scenario}
 use Rattle.stx_scenario.specs.declared.scenario.Bean.{Bean}
 use Rattle.stx_scenario.specs.declared.scenario.Method.{Method}
 use Rattle.stx_scenario.specs.declared.scenario.TxAttr.{TxAttr}
-use Rattle.stx_scenario.specs.declared.scenario.Stmt.{Stmt}
 use Rattle.stx_base.specs.Attributes.{bean_attribute}
 use Rattle.stx_model.specs.Built.{is_nested, has_nested, is_built, IsBuiltMethod, IsBuilt}
+use Rattle.stx_model.specs.Playable.{IsPlayable}
+use Rattle.stx_refusals.specs.declared.fault.ReadFault.{ReadFault}
 use Rattle.stx_refusals.specs.Faults.{under, entry}
-use Rattle.springtx.specs.NotYet.{unless_built, first_from, tx_not_yet, bean_not_yet, statement_not_yet, method_not_yet, not_yet}
+use Rattle.stx_judge.specs.Judge.{IsValid}
+use Rattle.stx_judge.proofs.JudgeLaws.{valid_is_in_order}
+use Rattle.stx_tool.specs.Readings.{refusal_in, play_refusal_in}
+use Rattle.stx_tool.specs.NotYet.{unless_built, first_from, tx_not_yet, bean_not_yet, statement_not_yet, method_not_yet, not_yet}
 
 -- ---- where no place is found
 
@@ -87,3 +91,12 @@ module _ (S : Scenario) (none : not_yet S ≡ None) where
   -- each form of it is built
   pub all_built : IsBuilt S
   all_built = record { methods = each_entry (IsBuiltMethod S) method_not_yet method_built 0 S.methods parts.1 }
+
+-- so a valid scenario without such a place is all that the players ask for
+pub playable : (S : Scenario) → IsValid S → not_yet S ≡ None → IsPlayable S
+playable S valid none = record { shaped = valid.shaped; order = valid_is_in_order S valid; built = all_built S none }
+
+-- what is refused when it is read is refused when it is to be played
+pub refused_too : (read : Result Scenario ReadFault) (text : List ℕ) → refusal_in read ≡ Some text → play_refusal_in read ≡ Some text
+refused_too (Err fault) text refused = refused
+refused_too (Ok S) text refused = cc

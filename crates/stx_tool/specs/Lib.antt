@@ -1,0 +1,3 @@
+pub mod NotYet
+pub mod Readings
+pub mod Ends
