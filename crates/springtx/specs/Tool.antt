@@ -11,7 +11,7 @@ use Rattle.stx_base.specs.CheckText.{check_words}
 use Rattle.stx_base.specs.RulesText.{rules_text}
 use Rattle.stx_base.specs.Weight.{weight}
 use Rattle.stx_read.specs.Reading.{scenario_of}
-use Rattle.stx_tool.specs.declared.answer.Answer.{Answer}
+use Rattle.stx_tool.specs.declared.response.Response.{Response}
 use Rattle.stx_tool.specs.Ends as ends
 use Rattle.stx_tool.specs.NotYet.{not_yet}
 use Rattle.stx_tool.specs.Readings.{refusal, play_refusal}
@@ -53,15 +53,15 @@ pub record IsTold (text_of : Scenario → List ℕ) (bytes : List ℕ) (report :
   pub told : text ≡ text_of scenario
 
 -- what a job reports and tells, where it is done with these bytes
-abbrev pub Does : Job → List ℕ → Option Report → List ℕ → Type 0
-Does Job.Play = IsPlayed
-Does Job.Check = IsTold check_text
-Does Job.Rules = IsTold rules_text
-Does (Job.Load seed clients) = λ bytes report text. ⊥
+abbrev pub Fulfils : Job → List ℕ → Option Report → List ℕ → Type 0
+Fulfils Job.Play = IsPlayed
+Fulfils Job.Check = IsTold check_text
+Fulfils Job.Rules = IsTold rules_text
+Fulfils (Job.Load seed clients) = λ bytes report text. ⊥
 
--- the text and the report of an answer
-abbrev pub IsAnswerTo : Job → List ℕ → Answer → Type 0
-IsAnswerTo = ends.IsAnswerTo Does refusal_of
+-- the text and the report of a response
+abbrev pub IsResponse : Job → List ℕ → Response → Type 0
+IsResponse = ends.IsResponse Fulfils refusal_of
 
 -- ---- runs; `Wrote` says what became of the text
 
@@ -71,7 +71,7 @@ IsAnswered words = ends.IsAnswered needs_input (job_of words)
 
 -- the job was done
 abbrev pub IsDone : (List ℕ → Type 0) → Option Report → Job → List ℕ → Type 0
-IsDone = ends.IsDone Does
+IsDone = ends.IsDone Fulfils
 
 -- the job was refused
 abbrev pub IsRefused : (List ℕ → Type 0) → Option Report → Job → List ℕ → Type 0
@@ -79,7 +79,7 @@ IsRefused = ends.IsRefused refusal_of
 
 -- done or refused, and written in part
 abbrev pub IsCutShort : (List ℕ → Type 0) → Option Report → Job → List ℕ → Type 0
-IsCutShort = ends.IsCutShort Does refusal_of
+IsCutShort = ends.IsCutShort Fulfils refusal_of
 
 -- input that a job is done with
 abbrev pub IsAccepted : List (String Global) → List ℕ → Type 0

@@ -7,7 +7,7 @@ ghost use Rattle.stx_base.specs.RulesText.{rules_text as text_of_rules};
 ghost use Rattle.stx_base.specs.Weight.{weight as weight_in};
 ghost use Rattle.stx_judge.specs.Judge.{IsValid};
 ghost use Rattle.stx_words.specs.Jobs.{is_built};
-ghost use Rattle.springtx.specs.Tool.{IsAnswerTo, check_text as text_of_check, needs_input as job_needs_input, own_play};
+ghost use Rattle.springtx.specs.Tool.{IsResponse, check_text as text_of_check, needs_input as job_needs_input, own_play};
 
 use std::alloc::Global;
 use stx_base::Report;
@@ -16,7 +16,7 @@ use stx_graph::{Graph, GraphFault};
 use stx_play::play;
 use stx_report::{check_text, print, rules_text};
 use stx_scenario::{NoMemory, Scenario};
-use stx_tool::{Answer, Reading, read, read_to_play};
+use stx_tool::{Reading, Response, read, read_to_play};
 use stx_words::Job;
 
 /// Whether a job reads a scenario, and generates none.
@@ -28,25 +28,25 @@ pub fn needs_input(job: Job) -> bool
 
 /// Reads a scenario and does the job with it, or says why not.
 #[tactic(auto, using(crate::proofs::ToolLaws::play_is_done, crate::proofs::ToolLaws::check_is_done, crate::proofs::ToolLaws::rules_is_done))]
-pub fn answer_to(alloc: Global, job: Job, bytes: &[u8]) -> Result<Answer, NoMemory>
+pub fn answer_to(alloc: Global, job: Job, bytes: &[u8]) -> Result<Response, NoMemory>
     requires { is_built job ≡ true }
-    ensures { IfOk result (λ answer. IsAnswerTo job bytes.now answer) }
+    ensures { IfOk result (λ response. IsResponse job bytes.now response) }
 {
     match job {
         Job::Play => match read_to_play(alloc, bytes)? {
             Reading::Accepted(scenario) => {
                 let (report, text) = played(alloc, scenario)?;
-                Ok(Answer::Done(Some(report), text))
+                Ok(Response::Done(Some(report), text))
             }
-            Reading::Refused(text) => Ok(Answer::Refused(text)),
+            Reading::Refused(text) => Ok(Response::Refused(text)),
         },
         Job::Check => match read(alloc, bytes)? {
-            Reading::Accepted(scenario) => Ok(Answer::Done(None, checked(alloc, &scenario)?)),
-            Reading::Refused(text) => Ok(Answer::Refused(text)),
+            Reading::Accepted(scenario) => Ok(Response::Done(None, checked(alloc, &scenario)?)),
+            Reading::Refused(text) => Ok(Response::Refused(text)),
         },
         Job::Rules => match read(alloc, bytes)? {
-            Reading::Accepted(scenario) => Ok(Answer::Done(None, decided(alloc, scenario)?)),
-            Reading::Refused(text) => Ok(Answer::Refused(text)),
+            Reading::Accepted(scenario) => Ok(Response::Done(None, decided(alloc, scenario)?)),
+            Reading::Refused(text) => Ok(Response::Refused(text)),
         },
         Job::Load { .. } => unreachable!(),
     }

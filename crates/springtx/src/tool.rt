@@ -11,7 +11,7 @@ use std::alloc::Global;
 use stx_base::ToolEnd;
 use stx_outside::{ReadEnd, Sink, Source};
 use stx_tool::{
-    Answer, READ_FAULT, TOO_LONG, USAGE, early, read_input, without_memory, write_done,
+    READ_FAULT, Response, TOO_LONG, USAGE, early, read_input, without_memory, write_done,
     write_refused,
 };
 use stx_words::{WordsFault, read_words};
@@ -76,8 +76,8 @@ pub fn tool<S: Source, K: Sink>(
         Err(ReadEnd::NoMemory(refused)) => return without_memory(refused),
     };
     match answer_to(alloc, job, &bytes) {
-        Ok(Answer::Done(report, text)) => write_done(sink, report, &text),
-        Ok(Answer::Refused(text)) => write_refused(sink, &text),
+        Ok(Response::Done(report, text)) => write_done(sink, report, &text),
+        Ok(Response::Refused(text)) => write_refused(sink, &text),
         Err(refused) => without_memory(refused),
     }
 }

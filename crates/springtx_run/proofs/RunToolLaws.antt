@@ -6,18 +6,18 @@ use Rattle.stx_base.specs.declared.outcome.Report.{Report}
 use Rattle.stx_model.specs.Faithful.{Faithful}
 use Rattle.stx_base.specs.Report as reports
 use Rattle.stx_read.specs.Reading.{scenario_of}
-use Rattle.stx_tool.specs.Ends.{HasRead}
+use Rattle.stx_tool.specs.Ends.{HasInput}
 use Rattle.stx_tool.specs.NotYet.{not_yet}
 use Rattle.stx_words.specs.declared.run_job.RunJob.{RunJob}
-use Rattle.springtx_run.specs.RunTool.{Does, is_done_so_far, needs_input}
+use Rattle.springtx_run.specs.RunTool.{Fulfils, is_done_so_far, needs_input}
 
-pub all_read : (job : RunJob) (input bytes : List ℕ) (now : Option (List ℕ)) → is_done_so_far job ≡ true → HasRead (needs_input job) (Some input) now bytes → bytes ≡ input
+pub all_read : (job : RunJob) (input bytes : List ℕ) (now : Option (List ℕ)) → is_done_so_far job ≡ true → HasInput (needs_input job) (Some input) now bytes → bytes ≡ input
 all_read RunJob.Run input bytes (Some now) done read = sym read.0.0
 all_read RunJob.Run input bytes None done read = absurd read.0
 all_read (RunJob.Load seed clients) input bytes now done read = cc
 
 pub run_is_done : (job : RunJob) (bytes text : List ℕ) (S : Scenario) (report : Report) → job ≡ RunJob.Run → scenario_of bytes ≡ Ok S → not_yet S ≡ None
-    → report.scenario ≡ S → Faithful report.scenario report.outcome → text ≡ reports.printed report.scenario report.outcome → Does job bytes (Some report) text
+    → report.scenario ≡ S → Faithful report.scenario report.outcome → text ≡ reports.printed report.scenario report.outcome → Fulfils job bytes (Some report) text
 run_is_done RunJob.Run bytes text S report is accepted built same faithful told = record {
   run = report;
   reported = refl;

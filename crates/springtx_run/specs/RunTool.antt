@@ -5,7 +5,7 @@ use Rattle.stx_base.specs.declared.outcome.Report.{Report}
 use Rattle.stx_model.specs.Faithful.{Faithful}
 use Rattle.stx_base.specs.Report as reports
 use Rattle.stx_read.specs.Reading.{scenario_of}
-use Rattle.stx_tool.specs.declared.answer.Answer.{Answer}
+use Rattle.stx_tool.specs.declared.response.Response.{Response}
 use Rattle.stx_tool.specs.Ends as ends
 use Rattle.stx_tool.specs.NotYet.{not_yet}
 use Rattle.stx_tool.specs.Readings.{play_refusal}
@@ -47,13 +47,13 @@ pub record IsRun (bytes : List ℕ) (report : Option Report) (text : List ℕ) :
   pub printed : text ≡ reports.printed run.scenario run.outcome
 
 -- what a job reports and tells, where it is done with these bytes
-abbrev pub Does : RunJob → List ℕ → Option Report → List ℕ → Type 0
-Does RunJob.Run = IsRun
-Does (RunJob.Load seed clients) = λ bytes report text. ⊥
+abbrev pub Fulfils : RunJob → List ℕ → Option Report → List ℕ → Type 0
+Fulfils RunJob.Run = IsRun
+Fulfils (RunJob.Load seed clients) = λ bytes report text. ⊥
 
--- the text and the report of an answer
-abbrev pub IsAnswerTo : RunJob → List ℕ → Answer → Type 0
-IsAnswerTo = ends.IsAnswerTo Does refusal_of
+-- the text and the report of a response
+abbrev pub IsResponse : RunJob → List ℕ → Response → Type 0
+IsResponse = ends.IsResponse Fulfils refusal_of
 
 -- ---- runs; `Wrote` says what became of the text
 
@@ -63,7 +63,7 @@ IsAnswered words = ends.IsAnswered needs_input (job_of words)
 
 -- the job was done
 abbrev pub IsDone : (List ℕ → Type 0) → Option Report → RunJob → List ℕ → Type 0
-IsDone = ends.IsDone Does
+IsDone = ends.IsDone Fulfils
 
 -- the job was refused
 abbrev pub IsRefused : (List ℕ → Type 0) → Option Report → RunJob → List ℕ → Type 0
@@ -71,7 +71,7 @@ IsRefused = ends.IsRefused refusal_of
 
 -- done or refused, and written in part
 abbrev pub IsCutShort : (List ℕ → Type 0) → Option Report → RunJob → List ℕ → Type 0
-IsCutShort = ends.IsCutShort Does refusal_of
+IsCutShort = ends.IsCutShort Fulfils refusal_of
 
 -- input that a job is done with
 abbrev pub IsAccepted : List (String Global) → List ℕ → Type 0

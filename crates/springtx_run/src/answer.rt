@@ -3,7 +3,7 @@ ghost use Rattle.std.specs.Prelude.{◌≡◌, IfOk, true};
 ghost use Rattle.stx_model.specs.Faithful.{Faithful};
 ghost use Rattle.stx_model.specs.Playable.{IsPlayable};
 ghost use Rattle.stx_base.specs.Report.{printed};
-ghost use Rattle.springtx_run.specs.RunTool.{IsAnswerTo, is_done_so_far};
+ghost use Rattle.springtx_run.specs.RunTool.{IsResponse, is_done_so_far};
 
 use std::alloc::Global;
 use std::sync::Wait;
@@ -13,7 +13,7 @@ use stx_client::Setup;
 use stx_report::print;
 use stx_runner::{Gate, run};
 use stx_scenario::{NoMemory, Scenario};
-use stx_tool::{Answer, Reading, read_to_play};
+use stx_tool::{Reading, Response, read_to_play};
 use stx_words::RunJob;
 
 /// Reads a scenario and does the job with it, or says why not.
@@ -24,17 +24,17 @@ pub fn answer_to<R: Threads + Wait + Sync, G: Gate>(
     job: RunJob,
     bytes: &[u8],
     gate: &G,
-) -> Result<Answer, NoMemory>
+) -> Result<Response, NoMemory>
     requires { is_done_so_far job ≡ true }
-    ensures { IfOk result (λ answer. IsAnswerTo job bytes.now answer) }
+    ensures { IfOk result (λ response. IsResponse job bytes.now response) }
 {
     match job {
         RunJob::Run => match read_to_play(alloc, bytes)? {
             Reading::Accepted(scenario) => {
                 let (report, text) = ran(rt, alloc, scenario, gate)?;
-                Ok(Answer::Done(Some(report), text))
+                Ok(Response::Done(Some(report), text))
             }
-            Reading::Refused(text) => Ok(Answer::Refused(text)),
+            Reading::Refused(text) => Ok(Response::Refused(text)),
         },
         RunJob::Load { .. } => unreachable!(),
     }

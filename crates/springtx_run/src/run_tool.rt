@@ -14,7 +14,7 @@ use stx_base::ToolEnd;
 use stx_outside::{ReadEnd, Sink, Source};
 use stx_runner::Gate;
 use stx_tool::{
-    Answer, READ_FAULT, TOO_LONG, USAGE, early, read_input, without_memory, write_done,
+    READ_FAULT, Response, TOO_LONG, USAGE, early, read_input, without_memory, write_done,
     write_refused,
 };
 use stx_words::WordsFault;
@@ -81,8 +81,8 @@ pub fn run_tool<R: Threads + Wait + Sync, S: Source, K: Sink, G: Gate>(
         Err(ReadEnd::NoMemory(refused)) => return without_memory(refused),
     };
     match answer_to(rt, alloc, job, &bytes, gate) {
-        Ok(Answer::Done(report, text)) => write_done(sink, report, &text),
-        Ok(Answer::Refused(text)) => write_refused(sink, &text),
+        Ok(Response::Done(report, text)) => write_done(sink, report, &text),
+        Ok(Response::Refused(text)) => write_refused(sink, &text),
         Err(refused) => without_memory(refused),
     }
 }

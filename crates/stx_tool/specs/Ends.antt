@@ -4,7 +4,7 @@ use Rattle.std.specs.List.{list_any}
 use Rattle.stx_scenario.specs.declared.limits.TheConstants.{MOST_INPUT_BYTES}
 use Rattle.stx_base.specs.declared.outcome.Report.{Report}
 use Rattle.stx_outside.specs.Streams.{LosesAll}
-use Rattle.stx_tool.specs.declared.answer.Answer.{Answer}
+use Rattle.stx_tool.specs.declared.response.Response.{Response}
 
 -- each end has one of these statuses
 abbrev pub is_status : ℕ → Bool
@@ -17,24 +17,24 @@ is_early status = list_any (λ s. s == status) (2 ∷ 3 ∷ 6 ∷ 7 ∷ [])
 -- ---- what was read
 
 -- where input is needed, all bytes that the source had, and no more than a scenario may have; else nothing
-abbrev pub HasRead : Bool → Option (List ℕ) → Option (List ℕ) → List ℕ → Type 0
-HasRead true before now bytes = LosesAll before now bytes × (length bytes ≤ MOST_INPUT_BYTES)
-HasRead false before now bytes = (now ≡ before) × (bytes ≡ [])
+abbrev pub HasInput : Bool → Option (List ℕ) → Option (List ℕ) → List ℕ → Type 0
+HasInput true before now bytes = LosesAll before now bytes × (length bytes ≤ MOST_INPUT_BYTES)
+HasInput false before now bytes = (now ≡ before) × (bytes ≡ [])
 
--- ---- what is answered to it
+-- ---- what is responded to it
 
--- the text and the report of an answer. `Does` says what a job that is done reports and tells of these bytes, and `refusal`
+-- the text and the report of a response. `Fulfils` says what a job that is done reports and tells of these bytes, and `refusal`
 -- why it isn't done with them
-abbrev pub IsAnswerTo : {J : Type 0} → (J → List ℕ → Option Report → List ℕ → Type 0) → (J → List ℕ → Option (List ℕ)) → J → List ℕ → Answer → Type 0
-IsAnswerTo Does refusal job bytes (Answer.Done report text) = Does job bytes report text.items
-IsAnswerTo Does refusal job bytes (Answer.Refused text) = refusal job bytes ≡ Some text.items
+abbrev pub IsResponse : {J : Type 0} → (J → List ℕ → Option Report → List ℕ → Type 0) → (J → List ℕ → Option (List ℕ)) → J → List ℕ → Response → Type 0
+IsResponse Fulfils refusal job bytes (Response.Done report text) = Fulfils job bytes report text.items
+IsResponse Fulfils refusal job bytes (Response.Refused text) = refusal job bytes ≡ Some text.items
 
 -- ---- what became of it; `Wrote` says what became of a text
 
 -- the job was done
-pub record IsDone {J : Type 0} (Does : J → List ℕ → Option Report → List ℕ → Type 0) (Wrote : List ℕ → Type 0) (report : Option Report) (job : J) (bytes : List ℕ) : Type 0 where
+pub record IsDone {J : Type 0} (Fulfils : J → List ℕ → Option Report → List ℕ → Type 0) (Wrote : List ℕ → Type 0) (report : Option Report) (job : J) (bytes : List ℕ) : Type 0 where
   pub text : List ℕ
-  pub done : Does job bytes report text
+  pub done : Fulfils job bytes report text
   pub written : Wrote text
 
 -- the job was refused
@@ -46,14 +46,14 @@ pub record IsRefused {J : Type 0} (refusal : J → List ℕ → Option (List ℕ
 
 -- done or refused, and written in part
 abbrev pub IsCutShort : {J : Type 0} → (J → List ℕ → Option Report → List ℕ → Type 0) → (J → List ℕ → Option (List ℕ)) → (List ℕ → Type 0) → Option Report → J → List ℕ → Type 0
-IsCutShort Does refusal Wrote report job bytes = IsDone Does Wrote report job bytes ⊎ IsRefused refusal Wrote report job bytes
+IsCutShort Fulfils refusal Wrote report job bytes = IsDone Fulfils Wrote report job bytes ⊎ IsRefused refusal Wrote report job bytes
 
 -- the words state this job, the input that it needs was read, and this became of both
 pub record IsAnswered {J : Type 0} (needs_input : J → Bool) (stated : Option J) (left_before left_now : Option (List ℕ)) (Answered : J → List ℕ → Type 0) : Type 0 where
   pub job : J
   pub stated_so : stated ≡ Some job
   pub bytes : List ℕ
-  pub read : HasRead (needs_input job) left_before left_now bytes
+  pub read : HasInput (needs_input job) left_before left_now bytes
   pub answered : Answered job bytes
 
 -- input that a job is done with

@@ -3,7 +3,7 @@ ghost use Rattle.std.specs.Prelude.{◌≡◌, ◌≢◌, false, IfOk, IsErrOf};
 ghost use Rattle.stx_scenario.specs.declared.limits.TheConstants.{MOST_INPUT_BYTES as MostBytes};
 ghost use Rattle.stx_outside.specs.declared.whole.ReadEnd.TheVariants.{Fault};
 ghost use Rattle.stx_outside.specs.Streams.{Rose, LosesMore, LosesWithin};
-ghost use Rattle.stx_tool.specs.Ends.{HasRead};
+ghost use Rattle.stx_tool.specs.Ends.{HasInput};
 
 use std::alloc::Global;
 use stx_outside::{ReadEnd, Source, read_whole};
@@ -16,7 +16,7 @@ pub fn read_input<S: Source>(
     source: &mut S,
     needed: bool,
 ) -> Result<Vec<u8>, ReadEnd>
-    ensures read { IfOk result (λ bytes. HasRead needed (S.left source.old) (S.left source.new) bytes.items) }
+    ensures read { IfOk result (λ bytes. HasInput needed (S.left source.old) (S.left source.new) bytes.items) }
     ensures unread { needed ≡ false → source.new ≡ source.old }
     ensures too_long { result ≡ Err ReadEnd.TooLong → LosesMore MostBytes (S.left source.old) (S.left source.new) }
     ensures no_longer { result ≢ Err ReadEnd.TooLong → LosesWithin MostBytes (S.left source.old) (S.left source.new) }

@@ -1,9 +1,9 @@
-// What a top call answers.
+// What a top call responds with.
 use stx_base::Report;
 
-/// What a top call answers, made whole before anything is written.
+/// What a top call responds with, made whole before anything is written.
 #[derive(Debug, Drop)]
-pub enum Answer {
+pub enum Response {
     /// The job was done: what is reported, if anything, and the text.
     Done(Option<Report>, Vec<u8>),
     /// It was refused: the refusal's text.
