@@ -1,5 +1,6 @@
 // The whole scenario.
 ghost use Rattle.std.specs.Prelude.{◌≡◌, ◌≤◌, IfOk};
+ghost use Rattle.stx_judge.specs.Judge.{IsValid};
 ghost use Rattle.stx_load.specs.Generated.{generated, settings_for};
 
 use crate::clients::{calls_of_clients, turns};
@@ -11,12 +12,13 @@ use stx_scenario::{
     List, MOST_CONNECTIONS, Name, NoMemory, Scenario, Settings, SyncMode, built_in_classes,
 };
 
-/// The scenario for load that a seed gives for so many clients.
+/// The scenario for load that a seed gives for so many clients. It is valid.
 #[tactic(auto, unfolding(crate::specs::Generated::generated))]
 pub fn generated(alloc: Global, seed: u64, clients: u32) -> Result<Scenario, NoMemory>
     requires some { 1 ≤ clients }
     requires few { clients ≤ 64 }
     ensures scenario { IfOk result (λ scenario. scenario ≡ generated seed clients) }
+    ensures valid { IfOk result (λ scenario. IsValid scenario) }
 {
     let mut draws = Draws { state: seed };
     let methods = methods(alloc, &mut draws)?;
