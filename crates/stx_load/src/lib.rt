@@ -4,9 +4,11 @@
 mod clients;
 mod draws;
 mod generator;
+mod laws;
 mod methods;
 mod payments;
 mod rows;
 
 pub use generator::generated;
+pub use laws::draws_are_worked_out;
 pub use payments::Payment;
