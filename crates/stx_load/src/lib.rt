@@ -8,6 +8,8 @@ mod laws;
 mod methods;
 mod payments;
 mod rows;
+#[cfg(test)]
+mod tests;
 
 pub use generator::generated;
 pub use laws::draws_are_worked_out;
