@@ -1,5 +1,6 @@
 // The whole scenario.
-ghost use Rattle.std.specs.Prelude.{◌≡◌, ◌≤◌, IfOk};
+ghost use Rattle.std.specs.Prelude.{◌≡◌, ◌≤◌, ◌*◌, IfOk};
+ghost use Rattle.stx_base.specs.Weight.{weight};
 ghost use Rattle.stx_judge.specs.Judge.{IsValid};
 ghost use Rattle.stx_load.specs.Generated.{generated, settings_for};
 
@@ -19,6 +20,7 @@ pub fn generated(alloc: Global, seed: u64, clients: u32) -> Result<Scenario, NoM
     requires few { clients ≤ 64 }
     ensures scenario { IfOk result (λ scenario. scenario ≡ generated seed clients) }
     ensures valid { IfOk result (λ scenario. IsValid scenario) }
+    ensures weight { IfOk result (λ scenario. weight scenario ≡ 1152 * clients) }
 {
     let mut draws = Draws { state: seed };
     let methods = methods(alloc, &mut draws)?;

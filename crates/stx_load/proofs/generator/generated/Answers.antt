@@ -1,7 +1,8 @@
 -- The parts, made one after the other from the same draws, are the whole.
-use Rattle.std.proofs.Common.{◌≡◌, [], ◌∷◌, codes, rules, subst, sym, ◌∙◌}
+use Rattle.std.proofs.Common.{◌≡◌, [], ◌∷◌, codes, rules, ap, subst, sym, ◌∙◌}
+use Rattle.stx_base.specs.Weight.{weight}
 use Rattle.stx_judge.specs.Judge.{IsValid}
-use Rattle.stx_load.proofs.ValidLaws.{generated_valid}
+use Rattle.stx_load.proofs.ValidLaws.{generated_valid, weight_of_clients}
 use Rattle.stx_load.proofs.WholeLaws.{clients_at, turns_at, whole}
 use Rattle.stx_load.proofs.generator.generated.Goals as goal
 
@@ -18,4 +19,4 @@ returns c =
     c.in_ok-row_names.ensures c.in_ok-first_values.ensures c.in_ok-built_in_classes.ensures.classes c.in_ok-beans.ensures
     (methods ∙ c.in_ok-methods.ensures.methods) c.new-2.ensures c.in_ok-listeners.ensures
     (c.in_ok-calls.ensures.clients ∙ clients_at seed _ clients c.in_ok-methods.ensures.state) in
-    record { scenario = made; valid = subst IsValid (sym made) (generated_valid seed clients c.requires.some c.requires.few) }
+    record { scenario = made; valid = subst IsValid (sym made) (generated_valid seed clients c.requires.some c.requires.few); weight = ap weight made ∙ weight_of_clients seed clients }
