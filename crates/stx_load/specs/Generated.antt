@@ -141,7 +141,7 @@ listeners = record {
 abbrev pub calls_from : ℕ → List MethodNo
 calls_from x = map (λ n. payment_no (draw (after x n) 64)) (range_with_len 0 8)
 
--- after the draws of all payments, each client takes eight
+-- after the 192 draws of all payments, each client takes eight
 abbrev pub calls_of_clients : ℕ → ℕ → List (List MethodNo)
 calls_of_clients seed clients = map (λ c. calls_from (after seed (192 + 8 * c))) (range_with_len 0 clients)
 
