@@ -2,7 +2,11 @@
 """Writes the input of a case to standard output, where it is large and regular.
 
 usage: tests/made.py KIND ARGUMENTS.., by the functions below"""
+import pathlib
 import sys
+
+sys.path.insert(0, str(pathlib.Path(__file__).resolve().parent.parent))
+from tools.load_draws import drawn
 
 LIMIT = 1_048_576
 BUILT_IN = [
@@ -214,9 +218,33 @@ def many_turns(count):
     return "schedule=" + array("0" for _ in range(int(count))) + "\n" + methods([method("m", ["write a 1"])], ["b.m"])
 
 
+def load(seed, clients):
+    """The scenario for load that a seed gives for so many clients."""
+    payments, calls, turns = drawn(int(seed), int(clients))
+    rows = [(f"acct{n:02}", 1000) for n in range(16)] + [("stock", 100000), ("audit", 0), ("mails", 0)]
+    of_beans = [("shop", ""), ("stock", 'propagation="nested"'), ("audit", 'propagation="requires_new"')]
+    bodies = [("shop", f"t{t:02}", [
+        f"need acct{account:02} {amount}", f"add acct{account:02} -{amount}", f"add acct{other:02} {amount}",
+        "call stock.pick catch RuntimeException", "call audit.note catch RuntimeException", "publish paid",
+    ]) for t, (account, other, amount) in enumerate(payments)]
+    bodies += [("stock", "pick", ["need stock 1", "add stock -1"]), ("audit", "note", ["add audit 1"]), ("audit", "mail", ["add mails 1"])]
+    return "\n".join([
+        'events=["paid"]',
+        "schedule=" + array(map(str, turns)),
+        f"settings={{pool={min(64, int(clients) + 1)},sync=\"always\",nested=true}}",
+        "rows=" + array(f'{{name="{name}",value={value}}}' for name, value in rows),
+        "beans=" + array(f'{{name="{name}",tx={{{tx}}}}}' for name, tx in of_beans),
+        "methods=" + array(
+            f'{{bean="{bean}",name="{name}",body={array(chr(34) + each + chr(34) for each in body)}}}' for bean, name, body in bodies),
+        'listeners=[{name="mail",event="paid",phase="after_commit",fallback=false,body=["call audit.mail"]}]',
+        "clients=" + array("{calls=" + array(f'"shop.t{t:02}"' for t in of_client) + "}" for of_client in calls),
+    ]) + "\n"
+
+
 KINDS = [
     repeat, bytes_of, entries, long_name, marks, class_chain, class_ring, call_chain, call_graph, heavy_calls, largest,
     wide_rules, wide_rules_text, new_rows, many_keys, many_empty_rows, additions, additions_text, many_turns,
+    load,
 ]
 
 

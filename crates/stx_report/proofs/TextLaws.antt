@@ -147,6 +147,13 @@ found_rows-values rows k [] = refl
 found_rows-values rows k (name ∷ names) =
     ap (λ found. cons_option (option_map (λ value. (name, value)) (finite.get rows k)) found) (found_rows-values rows (k + 1) names)
 
+-- the rows that have a value, sorted, are the final ones
+pub held_at_end : (S : Scenario) (history : List StoreEntry) (values : List (Option ℤ)) (rows : List (List ℕ × ℤ))
+    → values ≡ values_from (committed_rows S.values history) 0 S.row_names → rows ≡ by_name (found_rows S.row_names values)
+    → rows ≡ final_rows S history
+held_at_end S history values rows held sorted =
+    sorted ∙ ap (λ vs. by_name (found_rows S.row_names vs)) held ∙ ap by_name (found_rows-values (committed_rows S.values history) 0 S.row_names)
+
 -- ---- the whole report
 
 ends_of_lines : (head feed clients journal entries rows found end : List ℕ)

@@ -1,1 +1,2 @@
+pub mod SummaryText
 pub mod inner

@@ -34,7 +34,7 @@ fn row_text(alloc: Global, name: &str, value: i64) -> Result<String, NoMemory>
 }
 
 /// The names that have a value, each with it. Of two equal names the later value stays.
-fn sorted_rows<'a>(
+pub fn sorted_rows<'a>(
     alloc: Global,
     names: &'a [Name],
     values: &[Option<i64>],

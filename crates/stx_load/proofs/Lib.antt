@@ -1,0 +1,4 @@
+pub mod DrawLaws
+pub mod WholeLaws
+pub mod ValidLaws
+pub mod WorkedDraws
