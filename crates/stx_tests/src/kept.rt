@@ -47,7 +47,7 @@ fn returns_and_a_release_leave_the_older_values(rt: HostRuntime) -> Result<(), F
 }
 
 #[test]
-fn a_row_that_is_written_and_erased_is_absent(rt: HostRuntime) -> Result<(), Fail> {
+fn a_row_that_is_written_and_erased_is_absent_and_no_change(rt: HostRuntime) -> Result<(), Fail> {
     let alloc = rt.alloc();
     let mut rows = Rows::new(alloc, &List::new(alloc))?;
     rows.begin(alloc, 1)?;
@@ -55,6 +55,7 @@ fn a_row_that_is_written_and_erased_is_absent(rt: HostRuntime) -> Result<(), Fai
     assert_eq!(rt; rows.read(FIRST), Some(1));
     rows.erase(alloc, 1, FIRST)?;
     assert_eq!(rt; rows.read(FIRST), None);
+    assert_eq!(rt; rows.changes(1).len(), 0);
     Ok(())
 }
 
