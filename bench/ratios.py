@@ -40,6 +40,9 @@ COMPARED = [
     ("50,000 short, 10,000 rows held", "50,000 short, 100 rows held", 1.2),
 ]
 
+# And the time of one shared call, without reading: where clients wait for each other's rows it is no longer.
+COMPARED_EACH = [("in turn, the same rows", "in turn, rows of their own", 1.5)]
+
 # The most processor time of a whole run, its report written.
 WITHIN = {"64 clients, 64 calls of 47": 0.5, "4 calls of 250 calls of 198": 0.05}
 
@@ -87,6 +90,7 @@ def main():
         # Round by round, so that what else the machine does meets all plays alike.
         checked = {play: float("inf") for play in PLAYS}
         taken = dict(checked)
+        each = {}
         for _ in range(rounds):
             for play, (read, write) in files.items():
                 checked[play] = min(checked[play], run("check", read, write))
@@ -101,13 +105,18 @@ def main():
             if plain:
                 told = subprocess.run([plain], input=report, text=True, check=True, capture_output=True).stdout.strip()
             own = taken[play] - checked[play]
-            print(f"| {play} | {lines:,} | {calls:,} | {taken[play] * 1e3:.1f} ms | {own * 1e3:.1f} ms | {own / calls * 1e9:.0f} ns | {told} |")
+            each[play] = own / calls
+            print(f"| {play} | {lines:,} | {calls:,} | {taken[play] * 1e3:.1f} ms | {own * 1e3:.1f} ms | {each[play] * 1e9:.0f} ns | {told} |")
     faults = 0
     print()
     for more, less, most in COMPARED:
         times = taken[more] / taken[less]
         faults += times > most
         print(f"{more}: {times:.2f} times the time of {less} (at most {most})")
+    for more, less, most in COMPARED_EACH:
+        times = each[more] / each[less]
+        faults += times > most
+        print(f"a shared call {more}: {times:.2f} times one {less} (at most {most})")
     for play, most in WITHIN.items():
         faults += taken[play] > most
         print(f"{play}: {taken[play] * 1e3:.0f} ms (at most {most * 1e3:.0f})")
