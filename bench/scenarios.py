@@ -1,7 +1,12 @@
 #!/usr/bin/env python3
 """Writes a large scenario to standard output, for the measurements of bench/measure.
 
-  clients N BODY   N clients with N calls each of methods whose bodies have BODY statements
+  clients N CALLS BODY   N clients with CALLS calls each of methods whose bodies have BODY statements, one client after the other
+  turns N CALLS BODY ROWS   the same in turn, one call on the store at a time; ROWS is 1 where each client has rows of its own
+                   and 0 where all have the same
+  load N           one client with N calls, each of 250 calls inside it that make 198 reads each: the shape of a run of transactions
+  holder ROWS SHORT   the last client writes ROWS rows 10,000 times and stays in its transaction, while another one makes SHORT
+                   short transactions
   reading          a valid file of nearly the greatest size: 10,000 rows and 1,000 methods within 1,048,576 bytes
   rules            1,000 methods with an attribute over nearly 1,000 classes: about a million lines of `--do rules`
   calls DEPTH N    one client with N calls of an empty method that joins, and as many of one that runs without a transaction,
@@ -13,17 +18,60 @@ import sys
 LIMIT = 1_048_576
 
 
-def clients(count, body):
+def statements_of(rows):
+    """A read and a write in turn, of these rows."""
+    return ", ".join(f'"write {row} {place}"' if place % 2 else f'"read {row}"' for place, row in enumerate(rows))
+
+
+def clients(count, calls, body):
     random.seed(count * 1000 + body)
     print('beans = [{name="b"}]')
     print(f"settings = {{pool={min(64, count)}}}")
     for method in range(8):
         rows = [f"r{method}x{place % 40}" for place in range(body)]
-        statements = ", ".join(f'"write {row} {place}"' if place % 2 else f'"read {row}"' for place, row in enumerate(rows))
-        print(f'[[methods]]\nbean = "b"\nname = "m{method}"\ntx = {{}}\nbody = [{statements}]')
+        print(f'[[methods]]\nbean = "b"\nname = "m{method}"\ntx = {{}}\nbody = [{statements_of(rows)}]')
     for _ in range(count):
-        calls = ", ".join(f'"b.m{random.randrange(8)}"' for _ in range(count))
-        print(f"[[clients]]\ncalls = [{calls}]")
+        listed = ", ".join(f'"b.m{random.randrange(8)}"' for _ in range(calls))
+        print(f"[[clients]]\ncalls = [{listed}]")
+
+
+def turns(count, calls, body, own):
+    print('beans = [{name="b"}]')
+    print(f"settings = {{pool={count}}}")
+    print("schedule = " + str([place % count for place in range(min(100_000, count * calls * (body + 4)))]))
+    for method in range(count):
+        rows = [f"r{method if own else 0}x{place}" for place in range(body)]
+        print(f'[[methods]]\nbean = "b"\nname = "m{method}"\ntx = {{}}\nbody = [{statements_of(rows)}]')
+    for client in range(count):
+        listed = ", ".join([f'"b.m{client}"'] * calls)
+        print(f"[[clients]]\ncalls = [{listed}]")
+
+
+def load(tops):
+    def method(bean, name, body):
+        return f'{{bean="{bean}",name="{name}",tx={{}},body=[' + ",".join(f'"{statement}"' for statement in body) + "]}"
+
+    print('beans = [{name="b"},{name="c"}]\nmethods = [')
+    methods = [method("b", "m", ["call c.a"] * 249 + ["call c.c"]), method("c", "a", ["read a"] * 198), method("c", "c", ["read a"] * 197)]
+    print(",\n".join(methods) + "]\nclients = [{calls=[" + ",".join(['"b.m"'] * tops) + "]}]")
+
+
+def holder(rows, short):
+    writes, most = 10_000, 250
+
+    def method(name, body, tx="tx={},"):
+        print(f'{{bean="b",name="{name}",{tx}body=[' + ",".join(f'"{statement}"' for statement in body) + "]},")
+
+    print('beans = [{name="b"}]\nsettings = {pool=64}')
+    print("schedule = " + str([1] * (writes + 2)) + "\nmethods = [")
+    groups = writes // most
+    for group in range(groups):
+        method(f"group{group}", [f"write h{(group * most + place) % rows} {place}" for place in range(most)])
+    method("hold", [f"call b.group{group}" for group in range(groups)] + ["read z"])
+    method("short", ["write s 1"])
+    method("many", ["call b.short"] * most, tx="")
+    method("all", ["call b.many"] * (short // most), tx="")
+    print(']\nclients = [{calls=["b.all"]},{calls=["b.hold"]}]')
 
 
 def reading():
@@ -82,4 +130,4 @@ def calls(depth, count):
 
 if __name__ == "__main__":
     kind, *numbers = sys.argv[1:]
-    {"clients": clients, "reading": reading, "rules": rules, "calls": calls}[kind](*map(int, numbers))
+    {"clients": clients, "turns": turns, "load": load, "holder": holder, "reading": reading, "rules": rules, "calls": calls}[kind](*map(int, numbers))

@@ -3,3 +3,4 @@ pub mod RangeLaws
 pub mod PlayedLaws
 pub mod ScheduleLaws
 mod NewLaws
+pub mod CommitLaws

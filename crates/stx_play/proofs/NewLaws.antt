@@ -1,5 +1,5 @@
 -- A play before its first turn.
-use Rattle.std.proofs.Common.{◌≡◌, ℕ, false, List, length, map, sym, subst, refl}
+use Rattle.std.proofs.Common.{◌≡◌, false, List, length, map, sym, subst, refl}
 use Rattle.std.specs.List.{range_with_len}
 use Rattle.stx_scenario.specs.declared.scenario.Scenario.{Scenario}
 use Rattle.stx_base.specs.Stores.{store_facts}

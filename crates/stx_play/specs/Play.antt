@@ -1,6 +1,9 @@
 -- A play as contracts see it, and what turns make of it.
-use Rattle.std.specs.Prelude.{ℕ, ◌<◌, Bool, false, length, slice_get, Option}
+use Rattle.std.specs.Prelude.{ℕ, ◌<◌, Bool, true, false, not, List, length, drop, slice_get, Option}
 use Rattle.stx_scenario.specs.declared.scenario.Scenario.{Scenario}
+use Rattle.stx_base.specs.declared.history.StoreNote.{StoreNote}
+use Rattle.stx_base.specs.Histories.{store_notes}
+use Rattle.stx_base.specs.Stores.{is_busy}
 use Rattle.stx_journal.specs.declared.committed.Committed.{Committed}
 use Rattle.stx_journal.specs.Journal.{committed_in}
 pub use Rattle.stx_model.specs.Played.{IsClientDone}
@@ -24,6 +27,16 @@ with_turns play so_far = record { scenario = play.scenario; so_far = so_far; fai
 -- the commit that the store has gained since, if it has one
 abbrev pub newly_committed : PlayView → PlayView → Option Committed
 newly_committed old new = slice_get (committed_in old.scenario.values new.so_far.store) (length (committed_in old.scenario.values old.so_far.store))
+
+-- the notes that the store has gained since
+abbrev pub gained : PlayView → PlayView → List StoreNote
+gained old new = store_notes (drop (length old.so_far.store) new.so_far.store)
+
+-- a note that commits: a commit, or an own statement that isn't busy
+abbrev pub is_commit : StoreNote → Bool
+is_commit (StoreNote.Commit t n) = true
+is_commit (StoreNote.Auto a r) = not (is_busy r)
+is_commit _ = false
 
 -- every client has made all of its calls
 abbrev pub AllDone : Scenario → Turns → Type 0

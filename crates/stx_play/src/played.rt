@@ -1,13 +1,13 @@
 // A play under way: the pool, the store and the clients.
-ghost use Rattle.std.specs.Prelude.{◌≡◌, ◌<◌, ◌↔◌, length, slice_get, map, false, Some, IfOk, OnOk, IsTrue};
-ghost use Rattle.std.specs.List.{range_with_len};
-ghost use Rattle.std.specs.Option.{option_copied};
+ghost use Rattle.std.specs.Prelude.{◌≡◌, ◌<◌, ◌↔◌, length, slice_get, map, true, false, Some, IfOk, OnOk, OnErr, IsTrue};
+ghost use Rattle.std.specs.List.{list_any, range_with_len};
+ghost use Rattle.std.specs.Option.{is_some, option_copied};
 ghost use Rattle.stx_model.specs.Faithful.{Faithful};
 ghost use Rattle.stx_model.specs.Playable.{IsPlayable};
 ghost use Rattle.stx_model.specs.Played.{run_out, outcome_of};
 ghost use Rattle.stx_client.specs.View.{new_client, lines_of_script};
 ghost use Rattle.stx_journal.specs.Journal.{committed_in};
-ghost use Rattle.stx_play.specs.Play.{unplayed, with_turn, with_turns, newly_committed, IsClientDone, AllDone};
+ghost use Rattle.stx_play.specs.Play.{unplayed, with_turn, with_turns, newly_committed, gained, is_commit, IsClientDone, AllDone};
 ghost use Rattle.stx_play.specs.inner.Turning.{HasOneMore, EachEnded, HaveReadNothing};
 
 use crate::turn::take_turn;
@@ -71,19 +71,40 @@ impl<'a> Played<'a> {
         }
     }
 
-    /// Makes one turn of a client: its next shared call, or nothing where it is done. It gives what this call committed.
+    /// Makes one turn of a client: its next shared call, or nothing where it is done. It gives what this call committed,
+    /// which is something exactly where it was a commit or an own statement that wasn't busy.
     pub fn step(&mut self, alloc: Global, client: u32) -> Result<Option<Committed>, NoMemory>
         requires going { self.old.failed ≡ false }
         requires client { client < length self.old.scenario.clients }
         ensures turn { OnOk result (self.new ≡ with_turn self.old client) }
         ensures committed { IfOk result (λ committed. committed ≡ newly_committed self.old self.new) }
+        ensures told { IfOk result (λ committed. is_some committed ≡ list_any is_commit (gained self.old self.new)) }
+        ensures err { OnErr result (self.new.failed ≡ true) }
     {
         if self.is_done(client) {
             return Ok(None);
         }
         let before = self.count_committed();
         self.make_call(alloc, client)?;
-        self.committed_at(alloc, before)
+        match self.committed_at(alloc, before) {
+            Ok(committed) => Ok(committed),
+            Err(refused) => {
+                self.failed = true;
+                Err(refused)
+            }
+        }
+    }
+
+    /// Makes one turn of a client, without a copy of what it commits.
+    pub(crate) fn advance(&mut self, alloc: Global, client: u32) -> Result<(), NoMemory>
+        requires going { self.old.failed ≡ false }
+        requires client { client < length self.old.scenario.clients }
+        ensures { OnOk result (self.new ≡ with_turn self.old client) }
+    {
+        if self.is_done(client) {
+            return Ok(());
+        }
+        self.make_call(alloc, client)
     }
 
     // How many commits there were so far.
@@ -112,6 +133,7 @@ impl<'a> Played<'a> {
         requires more { ¬ (IsClientDone self.old.scenario self.old.so_far client) }
         ensures turn { OnOk result (self.new ≡ with_turn self.old client) }
         ensures one_more { OnOk result (HasOneMore self.old self.new) }
+        ensures err { OnErr result (self.new.failed ≡ true) }
     {
         self.failed = true;
         take_turn(

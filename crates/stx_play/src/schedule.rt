@@ -21,7 +21,7 @@ pub fn play(alloc: Global, setup: &Setup, schedule: &[u32]) -> Result<Outcome, N
 {
     let mut play = Played::new(alloc, setup)?;
     for client in schedule {
-        play.step(alloc, *client)?;
+        play.advance(alloc, *client)?;
     }
     for client in 0..setup.scenario.clients.len() {
         play.run_out(alloc, client as u32)?;

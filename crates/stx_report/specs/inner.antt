@@ -4,3 +4,4 @@ pub mod KeptWorks
 pub mod RowValues
 pub mod Places
 pub mod Decisions
+pub mod Commits

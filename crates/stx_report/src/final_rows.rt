@@ -45,30 +45,26 @@ impl KeptWork {
         }
     }
 
-    /// With one more note of the work. For want of memory it is dropped.
-    fn with(self, note: StoreNote) -> Result<Self, NoMemory>
-        ensures { IfOk result (λ kept. kept ≡ kept_after self note) }
+    /// Puts one more note of the work to it.
+    fn note(&mut self, note: StoreNote) -> Result<(), NoMemory>
+        ensures { OnOk result (self.new ≡ kept_after self.old note) }
     {
-        let KeptWork {
-            mut accesses,
-            mut points,
-        } = self;
         match note {
             StoreNote::Access { access, .. } | StoreNote::Auto { access, .. } => {
-                accesses.push(access)?;
+                self.accesses.push(access)?;
             }
-            StoreNote::Point(_) => points.push(accesses.len())?,
+            StoreNote::Point(_) => self.points.push(self.accesses.len())?,
             StoreNote::BackTo(_) => {
-                if let Some(count) = points.last() {
-                    accesses.truncate(*count);
+                if let Some(count) = self.points.last() {
+                    self.accesses.truncate(*count);
                 }
             }
             StoreNote::Release(_) => {
-                points.pop();
+                self.points.pop();
             }
             StoreNote::Begin(_) | StoreNote::Commit { .. } | StoreNote::Rollback(_) => {}
         }
-        Ok(KeptWork { accesses, points })
+        Ok(())
     }
 }
 
@@ -127,11 +123,11 @@ fn keep(
     ensures { OnOk result ((t : ℕ) → kept_by works.new t ≡
         (if t == tx then kept_after (kept_by works.old t) note else kept_by works.old t)) }
 {
-    let before = match works.remove(&tx) {
-        Some(kept) => kept,
-        None => KeptWork::new(alloc),
-    };
-    let kept = before.with(note)?;
+    if let Some(kept) = works.get_mut(&tx) {
+        return kept.note(note);
+    }
+    let mut kept = KeptWork::new(alloc);
+    kept.note(note)?;
     works.insert(tx, kept)?;
     Ok(())
 }

@@ -20,7 +20,7 @@ pub fn print(alloc: Global, scenario: &Scenario, outcome: &Outcome) -> Result<Ve
     push_text(&mut out, "springtx 1\n")?;
     push_clients(alloc, &mut out, scenario, outcome)?;
     push_text(&mut out, "journal\n")?;
-    push_journal(alloc, &mut out, outcome.store.as_slice())?;
+    push_journal(&mut out, outcome.store.as_slice())?;
     push_text(&mut out, "rows\n")?;
     push_rows(
         alloc,

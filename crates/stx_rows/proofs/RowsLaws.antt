@@ -338,6 +338,14 @@ pub on_err : {A E P : Type 0} (r : Result A E) → P → OnErr r P
 on_err (Ok a) p = tt
 on_err (Err e) p = p
 
+-- a value that is exchanged and put back is what it was
+pub exchanged_back : (k row : ℕ) (f : ℕ → Option ℤ) (before value : Option ℤ) → before ≡ f row → cond (k == row) before (cond (k == row) value (f k)) ≡ f k
+exchanged_back k row f before value was = by_test (k == row) refl
+  where
+    by_test : (b : Bool) → (k == row) ≡ b → cond b before (cond b value (f k)) ≡ f k
+    by_test true same = was ∙ ap f (sym (eqb-true k row same))
+    by_test false same = refl
+
 pub stack_of-at : (undo : List (ℕ × List (List Older))) (t : ℕ) → some_stack (get (stack_map undo) t) ≡ map from_entries (levels_in (lookup (nat_eq t) undo))
 stack_of-at undo t = ap some_stack (older-at undo t) ∙ some_stack-in (lookup (nat_eq t) undo)
 

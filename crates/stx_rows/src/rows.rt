@@ -9,7 +9,7 @@ ghost use Rattle.stx_base.specs.Alone.{first_rows, net};
 ghost use Rattle.stx_rows.specs.Rows.{change_to, kept_last, dropped, emptied, put_back_last, put_back_all, stack_of, SameValues, HasStack};
 ghost use Rattle.stx_rows.specs.inner.Undoing.{value_of, flat, noted, joined, innermost_level, emptied_level, levels_in, HasPlaces};
 
-use crate::slots::{Slots, place, set, value_of};
+use crate::slots::{Slots, exchange, set, value_of};
 use crate::undo::Undo;
 use indexmap::IndexMap;
 use std::alloc::Global;
@@ -106,9 +106,8 @@ impl Rows {
         ensures older { (t : ℕ) → finite.get self.new.older t ≡ finite.get self.old.older t }
         ensures err { OnErr result (SameValues self.old self.new) }
     {
-        place(&mut self.slots, row.0)?;
         let changes = change_of(alloc, row, value_of(&self.slots, row.0), value)?;
-        set(&mut self.slots, row.0, value);
+        exchange(&mut self.slots, row.0, value)?;
         Ok(changes)
     }
 
@@ -161,7 +160,7 @@ impl Rows {
         }
     }
 
-    /// Sets or removes a row.
+    /// Sets or removes a row, which is put back where what it held can't be kept.
     fn set(
         &mut self,
         _alloc: Global,
@@ -174,11 +173,14 @@ impl Rows {
         ensures err { OnErr result (SameValues self.old self.new) }
         ensures err_older { OnErr result (HasStack self.old tx (finite.get self.old.older tx) self.new) }
     {
-        place(&mut self.slots, row.0)?;
-        let before = value_of(&self.slots, row.0);
-        note_in(&mut self.undo, tx, row.0, before)?;
-        set(&mut self.slots, row.0, value);
-        Ok(())
+        let before = exchange(&mut self.slots, row.0, value)?;
+        match note_in(&mut self.undo, tx, row.0, before) {
+            Ok(()) => Ok(()),
+            Err(refused) => {
+                set(&mut self.slots, row.0, before);
+                Err(refused)
+            }
+        }
     }
 }
 

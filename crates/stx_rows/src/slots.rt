@@ -1,5 +1,5 @@
 // The values of rows. A row that is gone keeps its place, so that no return to an older value takes memory.
-ghost use Rattle.std.specs.Prelude.{◌≡◌, ◌==◌, ℕ, true, cond, OnOk};
+ghost use Rattle.std.specs.Prelude.{◌≡◌, ◌==◌, ℕ, true, cond, IfOk, OnOk, OnErr};
 ghost use Rattle.std.specs.Bool.{nat_eq};
 ghost use Rattle.std.specs.Option.{is_some};
 ghost use Rattle.indexmap.specs.IndexMap.{get};
@@ -20,16 +20,22 @@ pub(crate) fn value_of(slots: &Slots, row: u32) -> Option<i64>
     }
 }
 
-/// Gives a row a place, where it has none.
-pub(crate) fn place(slots: &mut Slots, row: u32) -> Result<(), NoMemory>
-    ensures same { (k : ℕ) → value_of (get nat_eq slots.new k) ≡ value_of (get nat_eq slots.old k) }
+/// Sets the value of a row, with a place for it where it has none, and gives the value that it had.
+pub(crate) fn exchange(
+    slots: &mut Slots,
+    row: u32,
+    value: Option<i64>,
+) -> Result<Option<i64>, NoMemory>
+    ensures before { IfOk result (λ before. before ≡ value_of (get nat_eq slots.old row)) }
+    ensures value { OnOk result ((k : ℕ) → value_of (get nat_eq slots.new k) ≡ cond (k == row) value (value_of (get nat_eq slots.old k))) }
     ensures stays { (k : ℕ) → is_some (get nat_eq slots.old k) ≡ true → is_some (get nat_eq slots.new k) ≡ true }
-    ensures ok { OnOk result (is_some (get nat_eq slots.new row) ≡ true) }
+    ensures placed { OnOk result (is_some (get nat_eq slots.new row) ≡ true) }
+    ensures err { OnErr result ((k : ℕ) → value_of (get nat_eq slots.new k) ≡ value_of (get nat_eq slots.old k)) }
 {
-    if !slots.contains_key(&row) {
-        slots.insert(row, None)?;
+    match slots.insert(row, value)? {
+        Some(before) => Ok(before),
+        None => Ok(None),
     }
-    Ok(())
 }
 
 /// Sets the value of a row that has a place.

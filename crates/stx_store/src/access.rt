@@ -10,7 +10,7 @@ ghost use Rattle.stx_store.specs.inner.Keeping.{IsSame, IsMade, IsAnswered, Same
 use std::alloc::Global;
 use stx_base::{Access, Answer};
 use stx_journal::Changes;
-use stx_locks::{Ask, LockTable};
+use stx_locks::LockTable;
 use stx_rows::Rows;
 use stx_scenario::{List, NoMemory, RowNo};
 
@@ -46,25 +46,17 @@ pub(crate) fn make_access(
     ensures err { OnErr result (IsSame locks.old locks.new rows.old rows.new) }
 {
     let row = row_named(access);
-    let held = locks.holder(row).is_some();
-    match locks.ask(alloc, row, tx)? {
-        Ask::Busy(other) => Ok(Answer::Busy(other)),
-        Ask::Granted => match change(rows, alloc, tx, access) {
-            Ok(answer) => Ok(answer),
-            Err(refused) => {
-                give_back_new(locks, row, held);
-                Err(refused)
+    match locks.holder(row) {
+        Some(holder) if holder == tx => change(rows, alloc, tx, access),
+        Some(holder) => Ok(Answer::Busy(holder)),
+        None => {
+            locks.ask(alloc, row, tx)?;
+            let answer = change(rows, alloc, tx, access);
+            if answer.is_err() {
+                locks.give_back(row);
             }
-        },
-    }
-}
-
-/// Gives a row back that wasn't held before.
-fn give_back_new(locks: &mut LockTable, row: RowNo, held: bool)
-    ensures { (k : ℕ) → get locks.new k ≡ cond (not held && (k == row.0)) None (get locks.old k) }
-{
-    if !held {
-        locks.give_back(row);
+            answer
+        }
     }
 }
 

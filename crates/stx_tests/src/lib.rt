@@ -4,6 +4,8 @@
 #[cfg(test)]
 mod judged;
 #[cfg(test)]
+mod kept;
+#[cfg(test)]
 mod loaded;
 #[cfg(test)]
 mod met;

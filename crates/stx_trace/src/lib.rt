@@ -4,6 +4,7 @@
 mod history;
 mod lines;
 mod names;
+mod text;
 mod words;
 
 pub use history::History;

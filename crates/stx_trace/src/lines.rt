@@ -1,16 +1,20 @@
 // The text of a line: its words, its place where it has one, and a line feed.
-ghost use Rattle.std.specs.Prelude.{◌≡◌, ◌≢◌, ◌++◌, true, IfOk, OnOk, OnErr, codes, string_bytes};
+ghost use Rattle.std.specs.Prelude.{◌≡◌, ◌≢◌, ◌++◌, true, OnOk, OnErr, codes};
 ghost use Rattle.std.specs.Fmt.{decimal, signed_decimal};
 ghost use Rattle.stx_base.specs.Lines as texts;
 ghost use Rattle.stx_base.specs.Lines.{OfNeither};
 ghost use Rattle.stx_trace.specs.LineKinds.{shared_of, is_of_callback};
 
 use crate::history::History;
-use crate::names::{class_name, event_name, label_name, listener_name, method_name, row_name};
+use crate::names::{
+    bean_name, class_name, event_name, label_name, listener_name, method_at, row_name,
+};
+use crate::text::LineText;
 use crate::words::{
     completion_word, decision_word, ending_word, kind_word, propagation_word, where_set,
 };
 use std::alloc::Global;
+use std::mem;
 use stx_base::{Access, Answer, Kind, Label, Line};
 use stx_scenario::{ClassNo, MethodNo, NoMemory, Propagation, Scenario};
 
@@ -29,281 +33,325 @@ pub fn push_line(
         out.old.items ++ texts.line_text scenario.now line.now place) }
     ensures err { OnErr result (out.new.items ≡ out.old.items) }
 {
-    let words = line_words(alloc, line, scenario)?;
-    let place = place_text(alloc, History::of(line), place)?;
-    let text = format!(in alloc; "{words}{place}\n")?;
-    out.extend_from_slice(text.as_bytes())?;
-    Ok(())
+    let mut text = LineText::at_end_of(mem::replace(out, Vec::new(alloc)));
+    match push_whole(&mut text, line, place, scenario) {
+        Ok(()) => {
+            *out = text.with_line();
+            Ok(())
+        }
+        Err(refused) => {
+            *out = text.without_line();
+            Err(refused)
+        }
+    }
 }
 
-fn place_text(alloc: Global, history: History, place: Option<u64>) -> Result<String, NoMemory>
-    ensures { IfOk result (λ text. string_bytes text ≡ texts.place_text (shared_of history) place) }
+fn push_whole(
+    text: &mut LineText,
+    line: &Line,
+    place: Option<u64>,
+    scenario: &Scenario,
+) -> Result<(), NoMemory>
+    ensures before { text.new.before ≡ text.old.before }
+    ensures ok { OnOk result (text.new.line ≡ text.old.line ++ texts.line_text scenario.now line.now place) }
+{
+    push_words(text, line, scenario)?;
+    push_place(text, History::of(line), place)?;
+    text.push("\n")
+}
+
+fn push_place(text: &mut LineText, history: History, place: Option<u64>) -> Result<(), NoMemory>
+    ensures before { text.new.before ≡ text.old.before }
+    ensures ok { OnOk result (text.new.line ≡ text.old.line ++ texts.place_text (shared_of history) place) }
 {
     match (history, place) {
-        (History::Pool, Some(place)) => Ok(format!(in alloc; " @p{place}")?),
-        (History::Store, Some(place)) => Ok(format!(in alloc; " @s{place}")?),
-        _ => Ok(String::new(alloc)),
+        (History::Pool, Some(place)) => counted(text, " @p", place),
+        (History::Store, Some(place)) => counted(text, " @s", place),
+        _ => Ok(()),
     }
 }
 
-/// The words of a line, without its place.
-fn line_words(alloc: Global, line: &Line, scenario: &Scenario) -> Result<String, NoMemory>
-    ensures { IfOk result (λ text. string_bytes text ≡ texts.line_words scenario.now line.now) }
+fn push_words(text: &mut LineText, line: &Line, scenario: &Scenario) -> Result<(), NoMemory>
+    ensures before { text.new.before ≡ text.old.before }
+    ensures ok { OnOk result (text.new.line ≡ text.old.line ++ texts.line_words scenario.now line.now) }
 {
     match History::of(line) {
-        History::Neither => own_words(alloc, line, scenario),
-        _ => shared_words(alloc, line, scenario),
+        History::Neither => push_own(text, line, scenario),
+        _ => push_shared(text, line, scenario),
     }
 }
 
-/// The words of a line of a call on the pool or the store.
+/// The words of a line of a shared call.
 #[tactic(auto, unfolding(stx_base::specs::Lines::line_words))]
-fn shared_words(alloc: Global, line: &Line, scenario: &Scenario) -> Result<String, NoMemory>
+fn push_shared(text: &mut LineText, line: &Line, scenario: &Scenario) -> Result<(), NoMemory>
     requires { texts.shared_by line.now ≢ OfNeither }
-    ensures { IfOk result (λ text. string_bytes text ≡ texts.line_words scenario.now line.now) }
+    ensures before { text.new.before ≡ text.old.before }
+    ensures ok { OnOk result (text.new.line ≡ text.old.line ++ texts.line_words scenario.now line.now) }
 {
     match *line {
-        Line::Take(connection) => take_words(alloc, connection),
-        Line::Give(connection) => numbered(alloc, "give", connection.into()),
-        Line::Begin(tx) => numbered(alloc, "begin", tx.into()),
-        Line::Row { access, answer, .. } => access_words(alloc, "", access, answer, scenario),
-        Line::Auto { access, answer } => access_words(alloc, "auto ", access, answer, scenario),
-        Line::Savepoint(_) => alone(alloc, "savepoint"),
-        Line::BackTo(_) => alone(alloc, "back_to"),
-        Line::Release(_) => alone(alloc, "release"),
-        Line::Commit { number, .. } => numbered(alloc, "commit", number),
-        Line::Rollback(_) => alone(alloc, "rollback"),
+        Line::Take(connection) => push_take(text, connection),
+        Line::Give(connection) => counted(text, "give ", connection.into()),
+        Line::Begin(tx) => counted(text, "begin ", tx.into()),
+        Line::Row { access, answer, .. } => {
+            push_access(text, access, scenario)?;
+            push_answer(text, answer)
+        }
+        Line::Auto { access, answer } => {
+            text.push("auto ")?;
+            push_access(text, access, scenario)?;
+            push_answer(text, answer)
+        }
+        Line::Savepoint(_) => text.push("savepoint"),
+        Line::BackTo(_) => text.push("back_to"),
+        Line::Release(_) => text.push("release"),
+        Line::Commit { number, .. } => counted(text, "commit ", number),
+        Line::Rollback(_) => text.push("rollback"),
         _ => unreachable!(),
     }
 }
 
 /// The words of a line of the client's own.
 #[tactic(auto, unfolding(stx_base::specs::Lines::line_words))]
-fn own_words(alloc: Global, line: &Line, scenario: &Scenario) -> Result<String, NoMemory>
+fn push_own(text: &mut LineText, line: &Line, scenario: &Scenario) -> Result<(), NoMemory>
     requires { texts.shared_by line.now ≡ OfNeither }
-    ensures { IfOk result (λ text. string_bytes text ≡ texts.line_words scenario.now line.now) }
+    ensures before { text.new.before ≡ text.old.before }
+    ensures ok { OnOk result (text.new.line ≡ text.old.line ++ texts.line_words scenario.now line.now) }
 {
     match *line {
-        Line::Top(call) => numbered(alloc, "top", call.into()),
+        Line::Top(call) => counted(text, "top ", call.into()),
         Line::Call {
             method,
             propagation,
             read_only,
-        } => call_words(alloc, method, propagation, read_only, scenario),
-        Line::Plain(method) => plain_words(alloc, method, scenario),
-        Line::This(method) => this_words(alloc, method, scenario),
-        Line::Leave { method, thrown } => leave_words(alloc, method, thrown, scenario),
-        Line::Suspend(label) => labelled(alloc, "suspend", label, scenario),
-        Line::Resume(label) => labelled(alloc, "resume", label, scenario),
-        Line::Unbind(connection) => numbered(alloc, "unbind", connection.into()),
-        Line::Bind(connection) => numbered(alloc, "bind", connection.into()),
-        Line::Opened { kind, owns } => opened_words(alloc, kind, owns),
-        Line::Throw(class) => named(alloc, "throw", class_name(scenario, class)),
-        Line::Catch(class) => named(alloc, "catch", class_name(scenario, class)),
-        Line::Rules { rollback, winner } => rules_words(alloc, rollback, winner),
-        Line::End(ending) => named(alloc, "end", ending_word(ending)),
-        Line::MarkGlobal => alone(alloc, "mark_global"),
-        Line::Mark => alone(alloc, "mark"),
-        _ => callback_words(alloc, line, scenario),
+        } => push_call(text, method, propagation, read_only, scenario),
+        Line::Plain(method) => push_plain(text, method, scenario),
+        Line::This(method) => push_this(text, method, scenario),
+        Line::Leave { method, thrown } => push_leave(text, method, thrown, scenario),
+        Line::Suspend(label) => labelled(text, "suspend ", label, scenario),
+        Line::Resume(label) => labelled(text, "resume ", label, scenario),
+        Line::Unbind(connection) => counted(text, "unbind ", connection.into()),
+        Line::Bind(connection) => counted(text, "bind ", connection.into()),
+        Line::Opened { kind, owns } => push_opened(text, kind, owns),
+        Line::Throw(class) => named(text, "throw ", class_name(scenario, class)),
+        Line::Catch(class) => named(text, "catch ", class_name(scenario, class)),
+        Line::Rules { rollback, winner } => push_rules(text, rollback, winner),
+        Line::End(ending) => named(text, "end ", ending_word(ending)),
+        Line::MarkGlobal => text.push("mark_global"),
+        Line::Mark => text.push("mark"),
+        _ => push_callback(text, line, scenario),
     }
 }
 
 /// The words of a line of a registration or an event, or of a callback.
 #[tactic(auto, unfolding(stx_base::specs::Lines::line_words))]
-fn callback_words(alloc: Global, line: &Line, scenario: &Scenario) -> Result<String, NoMemory>
+fn push_callback(text: &mut LineText, line: &Line, scenario: &Scenario) -> Result<(), NoMemory>
     requires { is_of_callback line.now ≡ true }
-    ensures { IfOk result (λ text. string_bytes text ≡ texts.line_words scenario.now line.now) }
+    ensures before { text.new.before ≡ text.old.before }
+    ensures ok { OnOk result (text.new.line ≡ text.old.line ++ texts.line_words scenario.now line.now) }
 {
     match *line {
-        Line::Register(label) => labelled(alloc, "register", label, scenario),
-        Line::Publish(event) => named(alloc, "publish", event_name(scenario, event)),
-        Line::Skip(listener) => named(alloc, "skip", listener_name(scenario, listener)),
-        Line::Listen(listener) => named(alloc, "listen", listener_name(scenario, listener)),
-        Line::BeforeCommit(label) => labelled(alloc, "before_commit", label, scenario),
-        Line::BeforeCompletion(label) => labelled(alloc, "before_completion", label, scenario),
-        Line::AfterCommit(label) => labelled(alloc, "after_commit", label, scenario),
+        Line::Register(label) => labelled(text, "register ", label, scenario),
+        Line::Publish(event) => named(text, "publish ", event_name(scenario, event)),
+        Line::Skip(listener) => named(text, "skip ", listener_name(scenario, listener)),
+        Line::Listen(listener) => named(text, "listen ", listener_name(scenario, listener)),
+        Line::BeforeCommit(label) => labelled(text, "before_commit ", label, scenario),
+        Line::BeforeCompletion(label) => labelled(text, "before_completion ", label, scenario),
+        Line::AfterCommit(label) => labelled(text, "after_commit ", label, scenario),
         Line::AfterCompletion { label, committed } => {
-            completion_words(alloc, label, committed, scenario)
+            let word = completion_word(committed);
+            labelled_word(text, "after_completion ", label, word, scenario)
         }
-        Line::Swallow(class) => named(alloc, "swallow", class_name(scenario, class)),
+        Line::Swallow(class) => named(text, "swallow ", class_name(scenario, class)),
         _ => unreachable!(),
     }
 }
 
-/// A line of words alone.
-fn alone(alloc: Global, words: &str) -> Result<String, NoMemory>
-    ensures { IfOk result (λ text. string_bytes text ≡ words.now) }
-{
-    Ok(String::from_str(alloc, words)?)
-}
-
 /// A verb with a number.
-fn numbered(alloc: Global, verb: &str, number: u64) -> Result<String, NoMemory>
-    ensures { IfOk result (λ text. string_bytes text ≡ verb.now ++ codes " " ++ decimal number) }
+fn counted(text: &mut LineText, verb: &str, number: u64) -> Result<(), NoMemory>
+    ensures before { text.new.before ≡ text.old.before }
+    ensures ok { OnOk result (text.new.line ≡ text.old.line ++ (verb.now ++ decimal number)) }
 {
-    Ok(format!(in alloc; "{verb} {number}")?)
+    text.push(verb)?;
+    text.push_count(number)
 }
 
 /// A verb with a name or a word.
-fn named(alloc: Global, verb: &str, name: &str) -> Result<String, NoMemory>
-    ensures { IfOk result (λ text. string_bytes text ≡ verb.now ++ codes " " ++ name.now) }
+fn named(text: &mut LineText, verb: &str, name: &str) -> Result<(), NoMemory>
+    ensures before { text.new.before ≡ text.old.before }
+    ensures ok { OnOk result (text.new.line ≡ text.old.line ++ (verb.now ++ name.now)) }
 {
-    Ok(format!(in alloc; "{verb} {name}")?)
+    text.push(verb)?;
+    text.push(name)
 }
 
 /// A verb with the name of a registration.
 fn labelled(
-    alloc: Global,
+    text: &mut LineText,
     verb: &str,
     label: Label,
     scenario: &Scenario,
-) -> Result<String, NoMemory>
-    ensures { IfOk result (λ text. string_bytes text ≡
-        verb.now ++ codes " " ++ texts.label_name scenario.now label) }
+) -> Result<(), NoMemory>
+    ensures before { text.new.before ≡ text.old.before }
+    ensures ok { OnOk result (text.new.line ≡
+        text.old.line ++ (verb.now ++ texts.label_name scenario.now label)) }
 {
-    named(alloc, verb, label_name(scenario, label))
+    named(text, verb, label_name(scenario, label))
+}
+
+/// A verb with the name of a registration, and a word after it.
+fn labelled_word(
+    text: &mut LineText,
+    verb: &str,
+    label: Label,
+    word: &str,
+    scenario: &Scenario,
+) -> Result<(), NoMemory>
+    ensures before { text.new.before ≡ text.old.before }
+    ensures ok { OnOk result (text.new.line ≡ text.old.line
+        ++ (verb.now ++ texts.label_name scenario.now label ++ codes " " ++ word.now)) }
+{
+    labelled(text, verb, label, scenario)?;
+    named(text, " ", word)
+}
+
+/// A verb with a method, as `bean.method`; nothing after the verb where no method has the number.
+fn push_method(
+    text: &mut LineText,
+    verb: &str,
+    method: MethodNo,
+    scenario: &Scenario,
+) -> Result<(), NoMemory>
+    ensures before { text.new.before ≡ text.old.before }
+    ensures ok { OnOk result (text.new.line ≡
+        text.old.line ++ (verb.now ++ texts.method_name scenario.now method)) }
+{
+    text.push(verb)?;
+    match method_at(scenario, method) {
+        Some(method) => {
+            text.push(bean_name(scenario, method.bean))?;
+            text.push(".")?;
+            text.push(method.name.as_str())
+        }
+        None => Ok(()),
+    }
 }
 
 #[tactic(auto, unfolding(stx_base::specs::Lines::line_words))]
-fn call_words(
-    alloc: Global,
+fn push_call(
+    text: &mut LineText,
     method: MethodNo,
     propagation: Propagation,
     read_only: bool,
     scenario: &Scenario,
-) -> Result<String, NoMemory>
-    ensures { IfOk result (λ text. string_bytes text ≡
-        texts.line_words scenario.now (Line.Call method propagation read_only)) }
+) -> Result<(), NoMemory>
+    ensures before { text.new.before ≡ text.old.before }
+    ensures ok { OnOk result (text.new.line ≡
+        text.old.line ++ texts.line_words scenario.now (Line.Call method propagation read_only)) }
 {
-    let name = method_name(alloc, scenario, method)?;
-    let propagation = propagation_word(propagation);
-    let read_only = where_set(read_only, " read_only");
-    Ok(format!(in alloc; "call {name} {propagation}{read_only}")?)
+    push_method(text, "call ", method, scenario)?;
+    named(text, " ", propagation_word(propagation))?;
+    text.push(where_set(read_only, " read_only"))
 }
 
 #[tactic(auto, unfolding(stx_base::specs::Lines::line_words))]
-fn plain_words(alloc: Global, method: MethodNo, scenario: &Scenario) -> Result<String, NoMemory>
-    ensures { IfOk result
-        (λ text. string_bytes text ≡ texts.line_words scenario.now (Line.Plain method)) }
+fn push_plain(text: &mut LineText, method: MethodNo, scenario: &Scenario) -> Result<(), NoMemory>
+    ensures before { text.new.before ≡ text.old.before }
+    ensures ok { OnOk result (text.new.line ≡ text.old.line ++ texts.line_words scenario.now (Line.Plain method)) }
 {
-    let name = method_name(alloc, scenario, method)?;
-    Ok(format!(in alloc; "call {name} plain")?)
+    push_method(text, "call ", method, scenario)?;
+    text.push(" plain")
 }
 
 #[tactic(auto, unfolding(stx_base::specs::Lines::line_words))]
-fn this_words(alloc: Global, method: MethodNo, scenario: &Scenario) -> Result<String, NoMemory>
-    ensures { IfOk result
-        (λ text. string_bytes text ≡ texts.line_words scenario.now (Line.This method)) }
+fn push_this(text: &mut LineText, method: MethodNo, scenario: &Scenario) -> Result<(), NoMemory>
+    ensures before { text.new.before ≡ text.old.before }
+    ensures ok { OnOk result (text.new.line ≡ text.old.line ++ texts.line_words scenario.now (Line.This method)) }
 {
-    let name = method_name(alloc, scenario, method)?;
-    Ok(format!(in alloc; "this {name}")?)
+    push_method(text, "this ", method, scenario)
 }
 
 #[tactic(auto, unfolding(stx_base::specs::Lines::line_words))]
-fn leave_words(
-    alloc: Global,
+fn push_leave(
+    text: &mut LineText,
     method: MethodNo,
     thrown: Option<ClassNo>,
     scenario: &Scenario,
-) -> Result<String, NoMemory>
-    ensures { IfOk result
-        (λ text. string_bytes text ≡ texts.line_words scenario.now (Line.Leave method thrown)) }
+) -> Result<(), NoMemory>
+    ensures before { text.new.before ≡ text.old.before }
+    ensures ok { OnOk result (text.new.line ≡
+        text.old.line ++ texts.line_words scenario.now (Line.Leave method thrown)) }
 {
-    let name = method_name(alloc, scenario, method)?;
+    push_method(text, "leave ", method, scenario)?;
     match thrown {
-        Some(class) => {
-            let class = class_name(scenario, class);
-            Ok(format!(in alloc; "leave {name} throws {class}")?)
-        }
-        None => Ok(format!(in alloc; "leave {name}")?),
+        Some(class) => named(text, " throws ", class_name(scenario, class)),
+        None => Ok(()),
     }
 }
 
-fn rules_words(alloc: Global, rollback: bool, winner: Option<u32>) -> Result<String, NoMemory>
-    ensures { IfOk result (λ text. string_bytes text ≡
-        codes "rules " ++ texts.decision_word rollback ++ codes " by " ++ texts.winner_text winner) }
+fn push_rules(text: &mut LineText, rollback: bool, winner: Option<u32>) -> Result<(), NoMemory>
+    ensures before { text.new.before ≡ text.old.before }
+    ensures ok { OnOk result (text.new.line ≡ text.old.line
+        ++ (codes "rules " ++ texts.decision_word rollback ++ codes " by " ++ texts.winner_text winner)) }
 {
-    let decision = decision_word(rollback);
+    named(text, "rules ", decision_word(rollback))?;
     match winner {
-        Some(place) => Ok(format!(in alloc; "rules {decision} by {place}")?),
-        None => Ok(format!(in alloc; "rules {decision} by default")?),
+        Some(place) => counted(text, " by ", place.into()),
+        None => text.push(" by default"),
     }
 }
 
-fn opened_words(alloc: Global, kind: Kind, owns: bool) -> Result<String, NoMemory>
-    ensures { IfOk result (λ text. string_bytes text ≡
-        codes "open " ++ texts.kind_word kind ++ texts.where_set owns (codes " sync")) }
+fn push_opened(text: &mut LineText, kind: Kind, owns: bool) -> Result<(), NoMemory>
+    ensures before { text.new.before ≡ text.old.before }
+    ensures ok { OnOk result (text.new.line ≡ text.old.line
+        ++ (codes "open " ++ texts.kind_word kind ++ texts.where_set owns (codes " sync"))) }
 {
-    let kind = kind_word(kind);
-    let sync = where_set(owns, " sync");
-    Ok(format!(in alloc; "open {kind}{sync}")?)
+    named(text, "open ", kind_word(kind))?;
+    text.push(where_set(owns, " sync"))
 }
 
-#[tactic(auto, unfolding(stx_base::specs::Lines::line_words))]
-fn completion_words(
-    alloc: Global,
-    label: Label,
-    committed: bool,
-    scenario: &Scenario,
-) -> Result<String, NoMemory>
-    ensures { IfOk result (λ text. string_bytes text ≡
-        texts.line_words scenario.now (Line.AfterCompletion label committed)) }
-{
-    let label = label_name(scenario, label);
-    let completion = completion_word(committed);
-    Ok(format!(in alloc; "after_completion {label} {completion}")?)
-}
-
-fn take_words(alloc: Global, connection: Option<u32>) -> Result<String, NoMemory>
-    ensures { IfOk result
-        (λ text. string_bytes text ≡ codes "take " ++ texts.connection_text connection) }
+fn push_take(text: &mut LineText, connection: Option<u32>) -> Result<(), NoMemory>
+    ensures before { text.new.before ≡ text.old.before }
+    ensures ok { OnOk result (text.new.line ≡
+        text.old.line ++ (codes "take " ++ texts.connection_text connection)) }
 {
     match connection {
-        Some(connection) => numbered(alloc, "take", connection.into()),
-        None => alone(alloc, "take empty"),
+        Some(connection) => counted(text, "take ", connection.into()),
+        None => text.push("take empty"),
     }
 }
 
-/// An access and its answer, after the words that say where it was made.
-fn access_words(
-    alloc: Global,
-    place: &str,
-    access: Access,
-    answer: Answer,
-    scenario: &Scenario,
-) -> Result<String, NoMemory>
-    ensures { IfOk result (λ text. string_bytes text ≡
-        place.now ++ texts.access_text scenario.now access ++ texts.answer_text answer) }
-{
-    let access = access_text(alloc, access, scenario)?;
-    let answer = answer_text(alloc, answer)?;
-    Ok(format!(in alloc; "{place}{access}{answer}")?)
-}
-
-fn access_text(alloc: Global, access: Access, scenario: &Scenario) -> Result<String, NoMemory>
-    ensures { IfOk result (λ text. string_bytes text ≡ texts.access_text scenario.now access) }
+fn push_access(text: &mut LineText, access: Access, scenario: &Scenario) -> Result<(), NoMemory>
+    ensures before { text.new.before ≡ text.old.before }
+    ensures ok { OnOk result (text.new.line ≡ text.old.line ++ texts.access_text scenario.now access) }
 {
     match access {
-        Access::Read(row) => named(alloc, "read", row_name(scenario, row)),
-        Access::Write(row, value) => write_text(alloc, row_name(scenario, row), value),
-        Access::Erase(row) => named(alloc, "erase", row_name(scenario, row)),
+        Access::Read(row) => named(text, "read ", row_name(scenario, row)),
+        Access::Write(row, value) => push_write(text, row_name(scenario, row), value),
+        Access::Erase(row) => named(text, "erase ", row_name(scenario, row)),
     }
 }
 
-fn write_text(alloc: Global, row: &str, value: i64) -> Result<String, NoMemory>
-    ensures { IfOk result
-        (λ text. string_bytes text ≡ codes "write " ++ row.now ++ codes " " ++ signed_decimal value) }
+fn push_write(text: &mut LineText, row: &str, value: i64) -> Result<(), NoMemory>
+    ensures before { text.new.before ≡ text.old.before }
+    ensures ok { OnOk result (text.new.line ≡
+        text.old.line ++ (codes "write " ++ row.now ++ codes " " ++ signed_decimal value)) }
 {
-    Ok(format!(in alloc; "write {row} {value}")?)
+    named(text, "write ", row)?;
+    text.push(" ")?;
+    text.push_value(value)
 }
 
-fn answer_text(alloc: Global, answer: Answer) -> Result<String, NoMemory>
-    ensures { IfOk result (λ text. string_bytes text ≡ texts.answer_text answer) }
+fn push_answer(text: &mut LineText, answer: Answer) -> Result<(), NoMemory>
+    ensures before { text.new.before ≡ text.old.before }
+    ensures ok { OnOk result (text.new.line ≡ text.old.line ++ texts.answer_text answer) }
 {
     match answer {
-        Answer::Found(value) => Ok(format!(in alloc; " found {value}")?),
-        Answer::Absent => alone(alloc, " absent"),
-        Answer::Done => alone(alloc, " done"),
-        Answer::Busy(tx) => Ok(format!(in alloc; " busy {tx}")?),
+        Answer::Found(value) => {
+            text.push(" found ")?;
+            text.push_value(value)
+        }
+        Answer::Absent => text.push(" absent"),
+        Answer::Done => text.push(" done"),
+        Answer::Busy(tx) => counted(text, " busy ", tx.into()),
     }
 }

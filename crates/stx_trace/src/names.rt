@@ -1,12 +1,13 @@
 // The names that lines print, looked up by number; where nothing has the number the name is empty.
 ghost use Rattle.std.specs.Prelude.{◌≡◌, [], IfOk, string_bytes, slice_get, unwrap_or, option_map};
+ghost use Rattle.std.specs.Option.{option_copied};
 ghost use Rattle.stx_base.specs.Lines as texts;
 
 use std::alloc::Global;
 use stx_base::Label;
 use stx_scenario::{
-    BeanNo, ClassNo, EventNo, HasName, List, ListenerNo, MethodNo, Name, NoMemory, RowNo, Scenario,
-    SyncNo,
+    BeanNo, ClassNo, EventNo, HasName, List, ListenerNo, Method, MethodNo, Name, NoMemory, RowNo,
+    Scenario, SyncNo,
 };
 
 /// The name of the part with this number, in a list of them.
@@ -29,7 +30,7 @@ fn text_at(names: &List<Name>, number: u32) -> &str
     }
 }
 
-fn bean_name(scenario: &Scenario, no: BeanNo) -> &str
+pub(crate) fn bean_name(scenario: &Scenario, no: BeanNo) -> &str
     ensures { result.now ≡ texts.bean_name scenario.now no }
 {
     name_at(&scenario.beans, no.0)
@@ -75,11 +76,18 @@ pub fn label_name(scenario: &Scenario, label: Label) -> &str
     }
 }
 
+/// The method with this number.
+pub(crate) fn method_at(scenario: &Scenario, no: MethodNo) -> Option<&Method>
+    ensures { option_copied result ≡ slice_get scenario.now.methods no.0 }
+{
+    scenario.methods.get(no.0 as usize)
+}
+
 /// The name of a method after that of its bean, as `bean.method`.
 pub fn method_name(alloc: Global, scenario: &Scenario, no: MethodNo) -> Result<String, NoMemory>
     ensures { IfOk result (λ name. string_bytes name ≡ texts.method_name scenario.now no) }
 {
-    match scenario.methods.get(no.0 as usize) {
+    match method_at(scenario, no) {
         Some(method) => {
             let bean = bean_name(scenario, method.bean);
             let name = method.name.as_str();
