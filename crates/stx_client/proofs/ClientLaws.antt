@@ -62,6 +62,11 @@ pub is_going : (S : Scenario) (stage : Stage) (carried : Carried) (calls : List 
 is_going S (Stage.Over x) carried calls fits = refl
 is_going S (Stage.Opening m catch) carried calls fits = refl
 is_going S Stage.Completing carried calls fits = refl
+is_going S Stage.Rounding carried calls fits = refl
+is_going S Stage.Resuming carried calls fits = refl
+is_going S (Stage.Pointing t) carried calls fits = refl
+is_going S (Stage.GoingBack t) carried calls fits = refl
+is_going S (Stage.Releasing t) carried calls fits = refl
 is_going S (Stage.Connecting a d) carried calls fits = refl
 is_going S (Stage.Accessing place a d) carried calls fits = refl
 is_going S (Stage.Returning c x) carried calls fits = refl
@@ -137,21 +142,27 @@ module _ (S : Scenario) (n : ℕ) (m : Machine) (pool : List PoolNote) (store : 
 
 -- a stage that waits, isn't done and hasn't failed wants one of these calls
 pub wants_one : (stage : Stage) (w : Want) → w ≡ want_of stage → falls stage ≡ false → has_failed stage ≡ false → (w ≡ Want.Done → ⊥) → (w ≡ Want.Take → ⊥) → ((c : ℕ) → w ≡ Want.Give c → ⊥)
-    → (w ≡ Want.Begin → ⊥) → ((t : ℕ) (a : Access) → w ≡ Want.Access t a → ⊥) → ((a : Access) → w ≡ Want.Auto a → ⊥) → ((t : ℕ) → w ≡ Want.Commit t → ⊥) → ((t : ℕ) → w ≡ Want.Rollback t → ⊥) → ⊥
-wants_one (Stage.Over x) w is waits ok done take give begin access auto commit rollback = cc
-wants_one (Stage.Opening m catch) w is waits ok done take give begin access auto commit rollback = cc
-wants_one Stage.Completing w is waits ok done take give begin access auto commit rollback = cc
-wants_one (Stage.Connecting a d) w is waits ok done take give begin access auto commit rollback = take is
-wants_one (Stage.Accessing (Place.Transaction t) a d) w is waits ok done take give begin access auto commit rollback = access t a is
-wants_one (Stage.Accessing (Place.Connection c) a d) w is waits ok done take give begin access auto commit rollback = auto a is
-wants_one (Stage.Returning c x) w is waits ok done take give begin access auto commit rollback = give c is
-wants_one Stage.Taking w is waits ok done take give begin access auto commit rollback = take is
-wants_one (Stage.Beginning c) w is waits ok done take give begin access auto commit rollback = begin is
-wants_one (Stage.Committing t) w is waits ok done take give begin access auto commit rollback = commit t is
-wants_one (Stage.RollingBack t) w is waits ok done take give begin access auto commit rollback = rollback t is
-wants_one (Stage.GivingBack bound) w is waits ok done take give begin access auto commit rollback = give bound.connection is
-wants_one Stage.Done w is waits ok done take give begin access auto commit rollback = done is
-wants_one Stage.Failed w is waits ok done take give begin access auto commit rollback = cc
+    → (w ≡ Want.Begin → ⊥) → ((t : ℕ) (a : Access) → w ≡ Want.Access t a → ⊥) → ((a : Access) → w ≡ Want.Auto a → ⊥) → ((t : ℕ) → w ≡ Want.Point t → ⊥) → ((t : ℕ) → w ≡ Want.BackTo t → ⊥) → ((t : ℕ) → w ≡ Want.Release t → ⊥)
+    → ((t : ℕ) → w ≡ Want.Commit t → ⊥) → ((t : ℕ) → w ≡ Want.Rollback t → ⊥) → ⊥
+wants_one (Stage.Over x) w is waits ok done take give begin access auto point back release commit rollback = cc
+wants_one (Stage.Opening m catch) w is waits ok done take give begin access auto point back release commit rollback = cc
+wants_one Stage.Completing w is waits ok done take give begin access auto point back release commit rollback = cc
+wants_one (Stage.Connecting a d) w is waits ok done take give begin access auto point back release commit rollback = take is
+wants_one (Stage.Accessing (Place.Transaction t) a d) w is waits ok done take give begin access auto point back release commit rollback = access t a is
+wants_one (Stage.Accessing (Place.Connection c) a d) w is waits ok done take give begin access auto point back release commit rollback = auto a is
+wants_one (Stage.Returning c x) w is waits ok done take give begin access auto point back release commit rollback = give c is
+wants_one Stage.Taking w is waits ok done take give begin access auto point back release commit rollback = take is
+wants_one (Stage.Beginning c) w is waits ok done take give begin access auto point back release commit rollback = begin is
+wants_one Stage.Rounding w is waits ok done take give begin access auto point back release commit rollback = cc
+wants_one Stage.Resuming w is waits ok done take give begin access auto point back release commit rollback = cc
+wants_one (Stage.Pointing t) w is waits ok done take give begin access auto point back release commit rollback = point t is
+wants_one (Stage.GoingBack t) w is waits ok done take give begin access auto point back release commit rollback = back t is
+wants_one (Stage.Releasing t) w is waits ok done take give begin access auto point back release commit rollback = release t is
+wants_one (Stage.Committing t) w is waits ok done take give begin access auto point back release commit rollback = commit t is
+wants_one (Stage.RollingBack t) w is waits ok done take give begin access auto point back release commit rollback = rollback t is
+wants_one (Stage.GivingBack bound) w is waits ok done take give begin access auto point back release commit rollback = give bound.connection is
+wants_one Stage.Done w is waits ok done take give begin access auto point back release commit rollback = done is
+wants_one Stage.Failed w is waits ok done take give begin access auto point back release commit rollback = cc
 
 -- ---- what the view tells
 

@@ -101,6 +101,9 @@ impl<'a> Client<'a> {
             Want::Begin => Call::Store(StoreCall::Begin),
             Want::Access(tx, access) => Call::Store(StoreCall::Access(tx, access)),
             Want::Auto(access) => Call::Store(StoreCall::Auto(access)),
+            Want::Point(tx) => Call::Store(StoreCall::Point(tx)),
+            Want::BackTo(tx) => Call::Store(StoreCall::BackTo(tx)),
+            Want::Release(tx) => Call::Store(StoreCall::Release(tx)),
             Want::Commit(tx) => Call::Store(StoreCall::Commit(
                 self.machine.tokens.spend_session(tx),
             )),

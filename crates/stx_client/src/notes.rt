@@ -1,5 +1,5 @@
 // The note that a call and its reply make together, and the notes that a client has taken in.
-ghost use Rattle.std.specs.Prelude.{◌≡◌, ◌<◌, [], Some, IfOk, OnOk, IsTrue};
+ghost use Rattle.std.specs.Prelude.{◌≡◌, ◌<◌, ◌⊎◌, [], Some, IfOk, OnErr, OnOk, IsTrue};
 ghost use Rattle.stx_base.specs.declared.call.Reply.{Reply as ReplyData};
 ghost use Rattle.stx_base.specs.declared.history.Note.{Note as NoteData};
 ghost use Rattle.stx_base.specs.Notes.{is_reply_to, note_of as note_in, pool_note as pool_note_in, store_note as store_note_in};
@@ -49,6 +49,7 @@ impl Notes {
         ensures pool { self.new.pool.items ≡ self.old.pool.items }
         ensures store { self.new.store.items ≡ self.old.store.items }
         ensures room { OnOk result ((0 < self.new.pool.spare) × (0 < self.new.store.spare)) }
+        ensures full { OnErr result ((self.old.pool.spare ≡ 0) ⊎ (self.old.store.spare ≡ 0)) }
     {
         self.pool.reserve(1)?;
         self.store.reserve(1)?;

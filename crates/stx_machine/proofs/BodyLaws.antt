@@ -15,14 +15,14 @@ use Rattle.stx_base.specs.Weight.{body_of, rank}
 use Rattle.stx_model.specs.Meanings.{State, Result, Over, and_then, finally}
 use Rattle.stx_model.specs.Scopes.{leaves, ends}
 use Rattle.stx_model.specs.Script.{statement, body}
-use Rattle.stx_model.proofs.Callable.{StatementBelow}
+use Rattle.stx_model.specs.Below.{StatementBelow}
 use Rattle.stx_machine.specs.declared.interception.Interception.{Interception}
 use Rattle.stx_machine.specs.declared.interception.Phase.{Phase}
 use Rattle.stx_machine.specs.declared.machine.Machine.{Machine}
 use Rattle.stx_machine.specs.Machine.{IsClass, IsLonger, Moves, Says, Waits, Shrinks, attribute_of, call_after, inside, phase_after, scope_of, statements}
 use Rattle.stx_model.specs.Built.{is_built}
 use Rattle.stx_model.specs.Playable.{IsPlayable}
-use Rattle.stx_machine.specs.Sound.{Bond, IsCall, IsNext, MayMake, ScopeRuns}
+use Rattle.stx_machine.specs.Sound.{Standing, IsCall, IsNext, MayMake, ScopeRuns}
 use Rattle.stx_machine.proofs.Places.{body_is, built_at, known_at, own_at, below_at, few_statements, drop_at, drop_past}
 use Rattle.stx_machine.proofs.Stacks.{runs_only}
 
@@ -46,12 +46,12 @@ may S bean m (Stmt.Erase k) built known own below = tt
 may S bean m (Stmt.Add k v) built known own below = tt
 may S bean m (Stmt.Need k v) built known own below = tt
 may S bean m (Stmt.Call n catch) built known own below =
-    let (method, rest) = and_parts _ _ known in (record { method = ltb-true n.0 (length S.methods) method; class = catch_known S catch rest }, below)
-may S bean m (Stmt.This n catch) built known own below = (record { method = own_method S bean n own; class = catch_known S catch known }, below)
+    let (method, rest) = and_parts _ _ known in record { method = ltb-true n.0 (length S.methods) method; class = catch_known S catch rest; low = below }
+may S bean m (Stmt.This n catch) built known own below = record { method = own_method S bean n own; class = catch_known S catch known; low = below }
 may S bean m (Stmt.Throw x) built known own below = ltb-true x.0 (length S.classes) known
 may S bean m Stmt.Mark built known own below = tt
 may S bean m (Stmt.Publish e) built known own below = absurd (false≢true built)
-may S bean m (Stmt.Register r) built known own below = absurd (false≢true built)
+may S bean m (Stmt.Register r) built known own below = below
 
 -- each statement of a method is one that its body may do
 pub may_at : (S : Scenario) (m : MethodNo) (place : ℕ) (s : Stmt) → IsPlayable S → m.0 < length S.methods → slice_get (body_of S m) place ≡ Some s → MayMake S m s
@@ -82,11 +82,11 @@ module _ (S : Scenario) (m : MethodNo) (place : ℕ) (st : State) where
     next_is = ap (λ b. body S (inside S m) b st) (drop_at (body_of S m) place s here)
 
     -- a statement, and the body after it
-    pub goes_on : (bond : Bond) (scope : Option Interception) → ScopeRuns S bond m scope
+    pub goes_on : (standing : Standing) (scope : Option Interception) → ScopeRuns S standing m scope
         → call_after S m place scope (Over None st) ≡ call_after S m (place + 1) scope (statement S (inside S m) s st)
-    goes_on bond None runs = ap (λ r. finally r (leaves m)) next_is
-    goes_on bond (Some i) runs =
-        let phase = runs_only bond i i.phase runs.1 in
+    goes_on standing None runs = ap (λ r. finally r (leaves m)) next_is
+    goes_on standing (Some i) runs =
+        let phase = runs_only standing i i.phase runs.1 in
         ap (λ p. phase_after S m place i p (Over None st)) phase
         ∙ ap (λ r. finally r (ends S (inside S m) (scope_of m i) (attribute_of S m))) next_is
         ∙ ap (λ p. phase_after S m (place + 1) i p (statement S (inside S m) s st)) (sym phase)
@@ -104,10 +104,10 @@ module _ (S : Scenario) (m : MethodNo) (place : ℕ) (st : State) where
     ends_unscoped = ap (λ r. finally r (leaves m)) (over_is x none)
 
     -- and one that did
-    pub ends_scoped : (bond : Bond) (i : Interception) → ScopeRuns S bond m (Some i)
+    pub ends_scoped : (standing : Standing) (i : Interception) → ScopeRuns S standing m (Some i)
         → call_after S m place (Some i) (Over x st) ≡ ends S (inside S m) (scope_of m i) (attribute_of S m) x st
-    ends_scoped bond i runs =
-        ap (λ p. phase_after S m place i p (Over x st)) (runs_only bond i i.phase runs.1)
+    ends_scoped standing i runs =
+        ap (λ p. phase_after S m place i p (Over x st)) (runs_only standing i i.phase runs.1)
         ∙ ap (λ r. finally r (ends S (inside S m) (scope_of m i) (attribute_of S m))) (over_is x none)
 
 -- ---- moves

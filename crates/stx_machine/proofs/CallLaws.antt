@@ -12,8 +12,7 @@ use Rattle.stx_model.specs.Opening.{opening}
 use Rattle.stx_model.specs.Scopes.{opens, intercepted}
 use Rattle.stx_model.specs.Script.{proxied, invoked}
 use Rattle.stx_model.specs.Statements.{caught}
-use Rattle.stx_frames.specs.declared.frame.Frame.{Frame}
-use Rattle.stx_machine.specs.Machine.{attribute_of, default_attribute, called, inside, opened, statements, frame_after}
+use Rattle.stx_machine.specs.Machine.{attribute_of, default_attribute, called, inside, opened, statements, body_after}
 
 pub attribute_is : (S : Scenario) (m : MethodNo) (a : TxAttr) → attribute S m ≡ Some a → attribute_of S m ≡ a
 unfolding attribute_of
@@ -28,6 +27,6 @@ module _ (S : Scenario) (m : MethodNo) (catch : Option ClassNo) (st : State) whe
       ∙ ap (λ b. finally (opens S (inside S m) m b (statements S m 0) (opening S.settings b st.context) (say (Line.Call m a.propagation a.read_only) st)) (caught S catch)) (sym (attribute_is S m a is))
 
   -- one without runs in its caller's context
-  pub called_without : attribute S m ≡ None → called S m catch st ≡ frame_after S (Frame.Body m 0 catch None) (Over None (say (Line.Plain m) st))
+  pub called_without : attribute S m ≡ None → called S m catch st ≡ body_after S m 0 catch None (Over None (say (Line.Plain m) st))
   unfolding invoked
   called_without is = ap (λ o. finally (proxied S (inside S m) m o st) (caught S catch)) is

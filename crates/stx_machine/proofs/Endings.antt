@@ -1,94 +1,329 @@
--- The end of a scope where nothing is registered.
-use Rattle.std.proofs.Common.{◌≡◌, Bool, true, false, List, [], ◌∷◌, Option, Some, None, refl, sym, ap, ◌∙◌, subst}
-use Rattle.std.specs.Prelude.{◌||◌}
-use Rattle.std.proofs.lemmas.Bool.{false≢true}
+-- The end of a scope: which actions are due, before and after each round.
+use Rattle.std.proofs.Common.{◌≡◌, ℕ, zero, suc, Bool, true, false, List, [], ◌∷◌, Option, Some, None, refl, sym, ap, ◌∙◌, subst}
+use Rattle.std.specs.Prelude.{◌||◌, ◌&&◌, not, ⊤}
+use Rattle.std.specs.Option.{is_some}
+use Rattle.std.proofs.lemmas.Bool.{false≢true, and_parts}
 use Rattle.stx_scenario.specs.declared.numbers.ClassNo.{ClassNo}
 use Rattle.stx_scenario.specs.declared.scenario.Scenario.{Scenario}
 use Rattle.stx_base.specs.declared.manager.Action.{Action}
 use Rattle.stx_base.specs.declared.manager.Ending.{Ending}
 use Rattle.stx_base.specs.declared.manager.Kind.{Kind}
 use Rattle.stx_base.specs.declared.manager.Round.{Round}
-use Rattle.stx_model.specs.Contexts.{Context, Registration, registered, ordered, without_syncs}
-use Rattle.stx_model.specs.Ending.{ending, completion, has_before_commit, completion_after}
-use Rattle.stx_model.specs.Meanings.{State, Result, Over, finally, with_context}
-use Rattle.stx_model.specs.Rounds.{Calls, stopping_round, swallowing_round, round_of, last_round}
+use Rattle.stx_model.specs.Contexts.{Context, Live, Registration, ordered, registered, without_syncs}
+use Rattle.stx_model.specs.Ending.{ending, completion, completion_after, completion_refused, has_before_commit, is_marked}
+use Rattle.stx_model.specs.Meanings.{State, Result, Over, Stops, Breaks, Meaning, finally, with_context}
+use Rattle.stx_model.specs.Rounds.{Calls, last_round, round_of, stopping_round, swallowing_round, swallows, told}
 use Rattle.stx_model.specs.Scopes.{Scope, acts, completes, later_or}
-use Rattle.stx_machine.specs.Machine.{ended_syncs}
-use Rattle.stx_machine.specs.Sound.{Bond, Unbound, Runs, Pointed, Ended, has_own, is_due}
+use Rattle.stx_manager.specs.Scopes.{OpenScope}
+use Rattle.stx_machine.specs.Machine.{rest_after, round_if}
+use Rattle.stx_machine.specs.Sound.{Bond, Unbound, Runs, Ended, Standing, below_rest, below_scope, due_after, due_in, due_told, ends_syncs, has_own, has_own_of, has_point, is_due, is_point, is_unbound, may_end, releases, standing_under, without_own}
 
-module _ (S : Scenario) (calls : Calls) where
-  -- ---- rounds of nothing
+-- ---- how a scope may end
 
-  module _ (st : State) (quiet : registered st.context.syncs ≡ []) where
-    stops : (owns : Bool) (round : Round) → round_of owns (stopping_round S calls round) st ≡ Over None st
-    unfolding stopping_round
-    stops true round = ap (λ rs. stopping_round S calls round (ordered rs) st) quiet
-    stops false round = refl
+may_unless : (b : Bool) → may_end Kind.Empty (elim b as (λ _. Ending) [ true ↦ Ending.Rollback | false ↦ Ending.Commit ]) ≡ true
+may_unless true = refl
+may_unless false = refl
 
-    swallows : (owns : Bool) (round : Round) (committed : Bool) → round_of owns (swallowing_round S calls round committed) st ≡ Over None st
-    unfolding swallowing_round
-    swallows true round committed = ap (λ rs. swallowing_round S calls round committed (ordered rs) st) quiet
-    swallows false round committed = refl
+-- an empty scope never ends unexpectedly
+pub ends_so : (kind : Kind) (rolls local : Bool) (context : Context) → may_end kind (ending kind rolls local context) ≡ true
+ends_so Kind.Fresh rolls local context = refl
+ends_so Kind.Join rolls local context = refl
+ends_so Kind.Point rolls local context = refl
+ends_so Kind.Empty rolls local context = may_unless (rolls || local)
 
-    lasts : (owns committed : Bool) → last_round S calls owns committed st ≡ Over None (with_context (ended_syncs owns st.context) st)
-    unfolding swallowing_round
-    lasts true committed = ap (λ rs. swallowing_round S calls Round.AfterCompletion committed (ordered rs) (with_context (without_syncs st.context) st)) quiet
-    lasts false committed = refl
+-- ---- what is released
 
-    module _ (scope : Scope) where
-      pub before_completion : (rest : List Action) (x : Option ClassNo) → acts S calls scope (Action.RoundBeforeCompletion ∷ rest) x st ≡ acts S calls scope rest x st
-      unfolding acts
-      before_completion rest x = ap (λ r. finally r (λ _. acts S calls scope rest x)) (swallows scope.owns Round.BeforeCompletion false)
-
-      pub after_commit : (rest : List Action) (x : Option ClassNo) → acts S calls scope (Action.RoundAfterCommit ∷ rest) x st ≡ acts S calls scope rest x st
-      unfolding acts
-      after_commit rest x = ap (λ r. finally r (λ y. acts S calls scope rest (later_or y x))) (stops scope.owns Round.AfterCommit)
-
-      pub after_completion : (committed : Bool) (rest : List Action) (x : Option ClassNo)
-          → acts S calls scope (Action.RoundAfterCompletion committed ∷ rest) x st ≡ acts S calls scope rest x (with_context (ended_syncs scope.owns st.context) st)
-      unfolding acts
-      after_completion committed rest x = ap (λ r. finally r (λ _. acts S calls scope rest x)) (lasts scope.owns committed)
-
-      by_round : (e : Ending) (x : Option ClassNo) (b : Bool)
-          → elim b as (λ _. Result) [
-            | true ↦ finally (round_of scope.owns (stopping_round S calls Round.BeforeCommit) st) (λ y. acts S calls scope (completion_after scope.kind e y) (later_or y x))
-            | false ↦ acts S calls scope (completion scope.kind e) x st
-          ] ≡ acts S calls scope (completion scope.kind e) x st
-      by_round e x true = ap (λ r. finally r (λ y. acts S calls scope (completion_after scope.kind e y) (later_or y x))) (stops scope.owns Round.BeforeCommit)
-      by_round e x false = refl
-
-      pub completes_quietly : (e : Ending) (x : Option ClassNo) → completes S calls scope e x st ≡ acts S calls scope (completion scope.kind e) x st
-      unfolding completes
-      completes_quietly e x = by_round e x (has_before_commit scope.kind e)
-
--- ---- what is due
-
-fresh_due : (e : Ending) → is_due Runs true (completion Kind.Fresh e) ≡ true
+-- of all completions that of a nested scope releases a savepoint
+pub releases_point : (kind : Kind) (e : Ending) → releases (completion kind e) ≡ is_point kind
 unfolding completion
-fresh_due Ending.Commit = refl
-fresh_due Ending.Rollback = refl
-fresh_due Ending.Unexpected = refl
+releases_point Kind.Fresh Ending.Commit = refl
+releases_point Kind.Fresh Ending.Rollback = refl
+releases_point Kind.Fresh Ending.Unexpected = refl
+releases_point Kind.Join Ending.Commit = refl
+releases_point Kind.Join Ending.Rollback = refl
+releases_point Kind.Join Ending.Unexpected = refl
+releases_point Kind.Point Ending.Commit = refl
+releases_point Kind.Point Ending.Rollback = refl
+releases_point Kind.Point Ending.Unexpected = refl
+releases_point Kind.Empty Ending.Commit = refl
+releases_point Kind.Empty Ending.Rollback = refl
+releases_point Kind.Empty Ending.Unexpected = refl
 
-join_due : (bond : Bond) (e : Ending) → is_due bond false (completion Kind.Join e) ≡ true
+pub refused_releases : (kind : Kind) → releases (completion_refused kind) ≡ false
 unfolding completion
-join_due bond Ending.Commit = refl
-join_due bond Ending.Rollback = refl
-join_due bond Ending.Unexpected = refl
+refused_releases Kind.Fresh = refl
+refused_releases Kind.Join = refl
+refused_releases Kind.Point = refl
+refused_releases Kind.Empty = refl
 
-empty_due : (bond : Bond) (older b : Bool) → is_due bond older (completion Kind.Empty (elim b as (λ _. Ending) [ true ↦ Ending.Rollback | false ↦ Ending.Commit ])) ≡ true
+pub refused_ends : (kind : Kind) → ends_syncs (completion_refused kind) ≡ true
 unfolding completion
-empty_due bond older true = refl
-empty_due bond older false = refl
+refused_ends Kind.Fresh = refl
+refused_ends Kind.Join = refl
+refused_ends Kind.Point = refl
+refused_ends Kind.Empty = refl
+
+-- a scope that owns registrations has a last round
+pub owned_ends : (kind : Kind) (e : Ending) (owns older : Bool) (standing : Standing) → may_end kind e ≡ true → has_own_of kind owns older standing ≡ true
+    → owns ≡ (owns && ends_syncs (completion kind e))
+unfolding completion
+owned_ends kind e false older standing may own = refl
+owned_ends Kind.Fresh Ending.Commit true older standing may own = refl
+owned_ends Kind.Fresh Ending.Rollback true older standing may own = refl
+owned_ends Kind.Fresh Ending.Unexpected true older standing may own = refl
+owned_ends Kind.Empty Ending.Commit true older standing may own = refl
+owned_ends Kind.Empty Ending.Rollback true older standing may own = refl
+owned_ends Kind.Empty Ending.Unexpected true older standing may own = absurd (false≢true may)
+owned_ends Kind.Join e true older standing may own = absurd (false≢true (and_parts (not older) false own).1)
+owned_ends Kind.Point e true older standing may own =
+    let (point, alone) = and_parts (has_point standing.bond) _ own in absurd (false≢true (and_parts (not older) false alone).1)
+
+-- what stands below a scope stands below its completion
+pub below_completion : (scope : OpenScope) (e : Ending) (standing : Standing) → may_end scope.kind e ≡ true → has_own scope standing ≡ true
+    → below_scope scope standing ≡ below_rest scope (completion scope.kind e) standing
+below_completion scope e standing may own =
+    ap (λ b. standing_under scope.suspended (without_own b scope.owns standing)) (sym (releases_point scope.kind e))
+    ∙ ap (λ b. standing_under scope.suspended (without_own (releases (completion scope.kind e)) b standing))
+    (owned_ends scope.kind e scope.owns (is_some scope.suspended) standing may own)
+
+commit_ends : (kind : Kind) (e : Ending) → has_before_commit kind e ≡ true → ends_syncs (completion kind e) ≡ true
+unfolding completion
+commit_ends Kind.Fresh Ending.Commit is = refl
+commit_ends Kind.Empty Ending.Commit is = refl
+commit_ends Kind.Fresh Ending.Rollback is = absurd (false≢true is)
+commit_ends Kind.Fresh Ending.Unexpected is = absurd (false≢true is)
+commit_ends Kind.Empty Ending.Rollback is = absurd (false≢true is)
+commit_ends Kind.Empty Ending.Unexpected is = absurd (false≢true is)
+commit_ends Kind.Join e is = absurd (false≢true is)
+commit_ends Kind.Point e is = absurd (false≢true is)
+
+-- ---- what is due at the end of a body
+
+fresh_due : (owns active : Bool) (e : Ending) → owns || not active ≡ true → is_due owns true (Runs 0) active (completion Kind.Fresh e) ≡ true
+unfolding completion
+fresh_due true true Ending.Commit fits = refl
+fresh_due true true Ending.Rollback fits = refl
+fresh_due true true Ending.Unexpected fits = refl
+fresh_due true false Ending.Commit fits = refl
+fresh_due true false Ending.Rollback fits = refl
+fresh_due true false Ending.Unexpected fits = refl
+fresh_due false true e fits = absurd (false≢true fits)
+fresh_due false false Ending.Commit fits = refl
+fresh_due false false Ending.Rollback fits = refl
+fresh_due false false Ending.Unexpected fits = refl
+
+join_due : (owns active : Bool) (bond : Bond) (e : Ending) → is_due owns false bond active (completion Kind.Join e) ≡ true
+unfolding completion
+join_due owns active bond Ending.Commit = refl
+join_due owns active bond Ending.Rollback = refl
+join_due owns active bond Ending.Unexpected = refl
+
+running_due : (owns active : Bool) (points : ℕ) (e : Ending) → is_due owns false (Runs (suc points)) active (completion Kind.Point e) ≡ true
+unfolding completion
+running_due owns active points Ending.Commit = refl
+running_due owns active points Ending.Rollback = refl
+running_due owns active points Ending.Unexpected = refl
+
+ended_due : (owns active : Bool) (points : ℕ) (e : Ending) → is_due owns false (Ended (suc points)) active (completion Kind.Point e) ≡ true
+unfolding completion
+ended_due owns active points Ending.Commit = refl
+ended_due owns active points Ending.Rollback = refl
+ended_due owns active points Ending.Unexpected = refl
+
+-- an empty scope that suspended nothing
+within_due : (owns active : Bool) (bond : Bond) (e : Ending) → may_end Kind.Empty e ≡ true → is_due owns false bond active (completion Kind.Empty e) ≡ true
+unfolding completion
+within_due owns active bond Ending.Commit may = refl
+within_due owns active bond Ending.Rollback may = refl
+within_due owns active bond Ending.Unexpected may = absurd (false≢true may)
+
+-- and one that did
+apart_due : (owns active : Bool) (e : Ending) → may_end Kind.Empty e ≡ true → owns || not active ≡ true → is_due owns true Unbound active (completion Kind.Empty e) ≡ true
+unfolding completion
+apart_due owns active Ending.Unexpected may fits = absurd (false≢true may)
+apart_due true true Ending.Commit may fits = refl
+apart_due true false Ending.Commit may fits = refl
+apart_due false true Ending.Commit may fits = absurd (false≢true fits)
+apart_due false false Ending.Commit may fits = refl
+apart_due true true Ending.Rollback may fits = refl
+apart_due true false Ending.Rollback may fits = refl
+apart_due false true Ending.Rollback may fits = absurd (false≢true fits)
+apart_due false false Ending.Rollback may fits = refl
+
+empty_due : (owns older : Bool) (bond : Bond) (active : Bool) (e : Ending) → may_end Kind.Empty e ≡ true
+    → not older || (is_unbound bond && (owns || not active)) ≡ true → is_due owns older bond active (completion Kind.Empty e) ≡ true
+empty_due owns false bond active e may own = within_due owns active bond e may
+empty_due owns true Unbound active e may own = apart_due owns active e may own
+empty_due owns true (Runs points) active e may own = absurd (false≢true own)
+empty_due owns true (Ended points) active e may own = absurd (false≢true own)
+
+due_of : (kind : Kind) (owns older : Bool) (bond : Bond) (syncs : Option (List Registration)) (e : Ending) → may_end kind e ≡ true
+    → has_own_of kind owns older (record { bond = bond; syncs = syncs }) ≡ true → is_due owns older bond (is_some syncs) (completion kind e) ≡ true
+due_of Kind.Fresh owns true (Runs zero) syncs e may own = fresh_due owns (is_some syncs) e own
+due_of Kind.Fresh owns false (Runs zero) syncs e may own = absurd (false≢true own)
+due_of Kind.Fresh owns older (Runs (suc points)) syncs e may own = absurd (false≢true own)
+due_of Kind.Fresh owns older Unbound syncs e may own = absurd (false≢true own)
+due_of Kind.Fresh owns older (Ended points) syncs e may own = absurd (false≢true own)
+due_of Kind.Join owns true bond syncs e may own = absurd (false≢true own)
+due_of Kind.Join owns false bond syncs e may own = join_due owns (is_some syncs) bond e
+due_of Kind.Point owns false (Runs (suc points)) syncs e may own = running_due owns (is_some syncs) points e
+due_of Kind.Point owns false (Ended (suc points)) syncs e may own = ended_due owns (is_some syncs) points e
+due_of Kind.Point owns true (Runs (suc points)) syncs e may own = absurd (false≢true own)
+due_of Kind.Point owns true (Ended (suc points)) syncs e may own = absurd (false≢true own)
+due_of Kind.Point owns older (Runs zero) syncs e may own = absurd (false≢true own)
+due_of Kind.Point owns older (Ended zero) syncs e may own = absurd (false≢true own)
+due_of Kind.Point owns older Unbound syncs e may own = absurd (false≢true own)
+due_of Kind.Empty owns older bond syncs e may own = empty_due owns older bond (is_some syncs) e may own
 
 -- the completion of a scope whose body ran is due
-pub due_at_end : (kind : Kind) (bond : Bond) (older rolls local : Bool) (context : Context) → has_own kind bond older ≡ true
-    → is_due bond older (completion kind (ending kind rolls local context)) ≡ true
-due_at_end Kind.Fresh Runs true rolls local context own = fresh_due (ending Kind.Fresh rolls local context)
-due_at_end Kind.Fresh Runs false rolls local context own = absurd (false≢true own)
-due_at_end Kind.Fresh Unbound older rolls local context own = absurd (false≢true own)
-due_at_end Kind.Fresh Pointed older rolls local context own = absurd (false≢true own)
-due_at_end Kind.Fresh Ended older rolls local context own = absurd (false≢true own)
-due_at_end Kind.Join bond true rolls local context own = absurd (false≢true own)
-due_at_end Kind.Join bond false rolls local context own = join_due bond (ending Kind.Join rolls local context)
-due_at_end Kind.Point bond older rolls local context own = absurd (false≢true own)
-due_at_end Kind.Empty bond older rolls local context own = empty_due bond older (rolls || local)
+pub due_at_end : (scope : OpenScope) (standing : Standing) (e : Ending) → may_end scope.kind e ≡ true → has_own scope standing ≡ true
+    → due_in scope standing (completion scope.kind e) ≡ true
+due_at_end scope standing e may own = due_of scope.kind scope.owns (is_some scope.suspended) standing.bond standing.syncs e may own
+
+-- ---- rounds
+
+and_all : (a b c d : Bool) → a ≡ true → b ≡ true → c ≡ true → d ≡ true → a && (b && (c && d)) ≡ true
+and_all true true true d first second third fourth = fourth
+and_all false b c d first second third fourth = first
+and_all true false c d first second third fourth = second
+and_all true true false d first second third fourth = third
+
+not_released : (b : Bool) → b ≡ false → not b ≡ true
+not_released false is = refl
+not_released true is = absurd (false≢true (sym is))
+
+refused_is : (kind : Kind) (e : Ending) → has_before_commit kind e ≡ true → completion_refused kind ≡ completion kind Ending.Rollback
+refused_is Kind.Fresh e is = refl
+refused_is Kind.Empty e is = refl
+refused_is Kind.Join e is = absurd (false≢true is)
+refused_is Kind.Point e is = absurd (false≢true is)
+
+no_point : (kind : Kind) (e : Ending) → has_before_commit kind e ≡ true → is_point kind ≡ false
+no_point Kind.Fresh e is = refl
+no_point Kind.Empty e is = refl
+no_point Kind.Join e is = refl
+no_point Kind.Point e is = absurd (false≢true is)
+
+may_roll_back : (kind : Kind) → may_end kind Ending.Rollback ≡ true
+may_roll_back Kind.Fresh = refl
+may_roll_back Kind.Join = refl
+may_roll_back Kind.Point = refl
+may_roll_back Kind.Empty = refl
+
+-- before the before_commit round of a scope that is to commit
+pub due_before_commit : (scope : OpenScope) (standing : Standing) (e : Ending) → has_before_commit scope.kind e ≡ true → may_end scope.kind e ≡ true
+    → has_own scope standing ≡ true → due_after Round.BeforeCommit scope standing (completion scope.kind e) ≡ true
+due_before_commit scope standing e is may own =
+    and_all _ _ _ _ (due_at_end scope standing e may own)
+    (ap (due_in scope standing) (refused_is scope.kind e is) ∙ due_at_end scope standing Ending.Rollback (may_roll_back scope.kind) own)
+    (not_released _ (releases_point scope.kind e ∙ no_point scope.kind e is)) (commit_ends scope.kind e is)
+
+stays_active : (active owns : Bool) → owns ≡ false → active && not owns ≡ active
+stays_active true false is = refl
+stays_active false false is = refl
+stays_active active true is = absurd (false≢true (sym is))
+
+-- where the scope owns no synchronisation, the actions are due without the round
+pub due_unowned : (round : Round) (scope : OpenScope) (standing : Standing) (rest : List Action) → scope.owns ≡ false → due_after round scope standing rest ≡ true
+    → due_in scope standing rest ≡ true
+due_unowned Round.BeforeCommit scope standing rest is due = (and_parts _ _ due).0
+due_unowned Round.BeforeCompletion scope standing rest is due = due
+due_unowned Round.AfterCommit scope standing rest is due = due
+due_unowned Round.AfterCompletion scope standing rest is due =
+    ap (λ active. is_due scope.owns (is_some scope.suspended) standing.bond active rest) (sym (stays_active (is_some standing.syncs) scope.owns is)) ∙ due
+
+-- ---- rounds as pieces
+
+-- what swallows throws nothing
+abbrev NeverThrows : Result → Type 0
+NeverThrows (Over (Some x) st) = ⊥
+NeverThrows _ = ⊤
+
+finally_never : (r : Result) (f g : Option ClassNo → Meaning) → NeverThrows r → ((st : State) → f None st ≡ g None st) → finally r f ≡ finally r g
+finally_never (Over None st) f g never same = same st
+finally_never (Over (Some x) st) f g never same = absurd never
+finally_never (Stops w st) f g never same = refl
+finally_never (Breaks st) f g never same = refl
+
+finally_same : (r : Result) (f g : Option ClassNo → Meaning) → ((y : Option ClassNo) (st : State) → f y st ≡ g y st) → finally r f ≡ finally r g
+finally_same (Over y st) f g same = same y st
+finally_same (Stops w st) f g same = refl
+finally_same (Breaks st) f g same = refl
+
+module _ (S : Scenario) (calls : Calls) where
+  swallows_on : (r : Result) (next : Option ClassNo → Meaning) → ((x : Option ClassNo) (st : State) → NeverThrows (next x st)) → NeverThrows (finally r next)
+  swallows_on (Over x st) next never = never x st
+  swallows_on (Stops w st) next never = tt
+  swallows_on (Breaks st) next never = tt
+
+  swallowing_never : (round : Round) (committed : Bool) (rs : List Registration) (st : State) → NeverThrows (swallowing_round S calls round committed rs st)
+  unfolding swallowing_round
+  swallowing_never round committed [] st = tt
+  swallowing_never round committed (r ∷ later) st =
+      swallows_on (told S calls round committed r st) (λ x after. swallowing_round S calls round committed later (swallows x after))
+      (λ x after. swallowing_never round committed later (swallows x after))
+
+  module _ (scope : Scope) (rest : List Action) (x : Option ClassNo) (st : State) where
+    abbrev after : Kind → Round → Option ClassNo → Meaning
+    after kind round y = acts S calls scope (rest_after kind round rest y) (later_or y x)
+
+    before_completion_of : (owns : Bool) → finally (elim owns as (λ _. Result) [ true ↦ swallowing_round S calls Round.BeforeCompletion false (ordered (registered st.context.syncs)) st | false ↦ Over None st ]) (λ _. acts S calls scope rest x)
+        ≡ finally (elim owns as (λ _. Result) [ true ↦ swallowing_round S calls Round.BeforeCompletion false (ordered (registered st.context.syncs)) st | false ↦ Over None st ]) (after scope.kind Round.BeforeCompletion)
+    before_completion_of true =
+        finally_never (swallowing_round S calls Round.BeforeCompletion false (ordered (registered st.context.syncs)) st) (λ _. acts S calls scope rest x) (after scope.kind Round.BeforeCompletion)
+        (swallowing_never Round.BeforeCompletion false (ordered (registered st.context.syncs)) st) (λ u. refl)
+    before_completion_of false = refl
+
+    after_completion_of : (owns committed : Bool) → finally (last_round S calls owns committed st) (λ _. acts S calls scope rest x) ≡ finally (last_round S calls owns committed st) (after scope.kind Round.AfterCompletion)
+    after_completion_of true committed =
+        finally_never (last_round S calls true committed st) (λ _. acts S calls scope rest x) (after scope.kind Round.AfterCompletion)
+        (swallowing_never Round.AfterCompletion committed (ordered (registered st.context.syncs)) (with_context (without_syncs st.context) st)) (λ u. refl)
+    after_completion_of false committed = refl
+
+    pub before_completion : (committed : Bool) → acts S calls scope (Action.RoundBeforeCompletion ∷ rest) x st
+        ≡ finally (round_if S calls scope.owns Round.BeforeCompletion committed st) (after scope.kind Round.BeforeCompletion)
+    unfolding acts
+    before_completion committed = before_completion_of scope.owns
+
+    pub after_commit : (committed : Bool) → acts S calls scope (Action.RoundAfterCommit ∷ rest) x st
+        ≡ finally (round_if S calls scope.owns Round.AfterCommit committed st) (after scope.kind Round.AfterCommit)
+    unfolding acts
+    after_commit committed = refl
+
+    pub after_completion : (committed : Bool) → acts S calls scope (Action.RoundAfterCompletion committed ∷ rest) x st
+        ≡ finally (round_if S calls scope.owns Round.AfterCompletion committed st) (after scope.kind Round.AfterCompletion)
+    unfolding acts
+    after_completion committed = after_completion_of scope.owns committed
+
+  -- the before_commit round of a scope that is to commit
+  module _ (scope : Scope) (e : Ending) (x : Option ClassNo) (st : State) where
+    after_refused : (y : Option ClassNo) (u : State) → acts S calls scope (completion_after scope.kind e y) (later_or y x) u
+        ≡ acts S calls scope (rest_after scope.kind Round.BeforeCommit (completion scope.kind e) y) (later_or y x) u
+    after_refused None u = refl
+    after_refused (Some y) u = refl
+
+    abbrev completing : Bool → Result
+    completing b = elim b as (λ _. Result) [
+      | true ↦ finally (round_of scope.owns (stopping_round S calls Round.BeforeCommit) st) (λ y. acts S calls scope (completion_after scope.kind e y) (later_or y x))
+      | false ↦ acts S calls scope (completion scope.kind e) x st
+    ]
+
+    commits_by : (b committed : Bool) → b ≡ true → completing b
+        ≡ finally (round_if S calls scope.owns Round.BeforeCommit committed st) (λ y. acts S calls scope (rest_after scope.kind Round.BeforeCommit (completion scope.kind e) y) (later_or y x))
+    commits_by true committed is =
+        finally_same (round_of scope.owns (stopping_round S calls Round.BeforeCommit) st) (λ y. acts S calls scope (completion_after scope.kind e y) (later_or y x))
+        (λ y. acts S calls scope (rest_after scope.kind Round.BeforeCommit (completion scope.kind e) y) (later_or y x)) after_refused
+    commits_by false committed is = absurd (false≢true is)
+
+    pub commits : (committed : Bool) → has_before_commit scope.kind e ≡ true → completes S calls scope e x st
+        ≡ finally (round_if S calls scope.owns Round.BeforeCommit committed st) (λ y. acts S calls scope (rest_after scope.kind Round.BeforeCommit (completion scope.kind e) y) (later_or y x))
+    unfolding completes
+    commits committed is = commits_by (has_before_commit scope.kind e) committed is
+
+    without_by : (b : Bool) → b ≡ false → completing b ≡ acts S calls scope (completion scope.kind e) x st
+    without_by false is = refl
+    without_by true is = absurd (false≢true (sym is))
+
+    pub completes_at_once : has_before_commit scope.kind e ≡ false → completes S calls scope e x st ≡ acts S calls scope (completion scope.kind e) x st
+    unfolding completes
+    completes_at_once is = without_by (has_before_commit scope.kind e) is

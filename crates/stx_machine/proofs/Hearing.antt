@@ -14,8 +14,8 @@ use Rattle.stx_base.specs.declared.history.StoreNote.{StoreNote}
 use Rattle.stx_base.specs.declared.line.Line.{Line}
 use Rattle.stx_base.specs.declared.manager.Action.{Action}
 use Rattle.stx_base.specs.Notes.{pool_answers, pool_line, store_answers, store_line}
-use Rattle.stx_model.specs.Contexts.{Context}
-use Rattle.stx_model.specs.Meanings.{State, Result, Meaning, ask, on_access, with_local}
+use Rattle.stx_model.specs.Contexts.{Context, with_global_mark}
+use Rattle.stx_model.specs.Meanings.{State, Result, Meaning, ask, on_access, with_context, with_local}
 use Rattle.stx_model.specs.Rounds.{Calls}
 use Rattle.stx_model.specs.Scopes.{Scope, acts, begins, leaves, resumed}
 use Rattle.stx_model.specs.Statements.{concludes, unless_busy}
@@ -28,12 +28,12 @@ use Rattle.stx_machine.specs.declared.stage.Bound.{Bound}
 use Rattle.stx_machine.specs.declared.stage.Place.{Place}
 use Rattle.stx_machine.specs.declared.stage.Stage.{Stage}
 use Rattle.stx_machine.specs.declared.stage.Then.{Then}
-use Rattle.stx_machine.specs.Machine.{Call, accesses, before_line, context_at, later_calls, piece, resume, run, stack, answered, want_at, row_access, does, completes, inside, scope_of, rest_of, thrown_of, of_top, finds_none, starts}
-use Rattle.stx_machine.specs.Sound.{Bond, CallOpens, CallCompletes, GivesLast, is_resumption}
+use Rattle.stx_machine.specs.Machine.{Call, accesses, before_line, context_at, later_calls, piece, resume, run, stack, answered, want_at, row_access, does, completes, inside, scope_of, rest_of, thrown_of, of_top, finds_none, pointed, starts, starts_pointed}
+use Rattle.stx_machine.specs.Sound.{CallCompletes, CallOpens, CallPoints, GivesLast, Standing, is_resumption}
 
 -- ---- the last action
 
-resumption_is : (rest : List Action) → is_resumption rest ≡ true → rest ≡ Action.Resumption ∷ []
+pub resumption_is : (rest : List Action) → is_resumption rest ≡ true → rest ≡ Action.Resumption ∷ []
 resumption_is [] is = absurd (false≢true is)
 resumption_is (Action.Resumption ∷ []) is = refl
 resumption_is (Action.Resumption ∷ a ∷ rest) is = absurd (false≢true is)
@@ -97,50 +97,77 @@ module _ (S : Scenario) (lines : List Line) (context : Context) (local : Option 
       → ask (Want.Give c) (λ _. concludes x) (before (PoolNote.Given d ∷ pool) store) ≡ concludes x (said (Line.Give d))
   heard_given c d x is = asked (Want.Give c) (λ _. concludes x) (before (PoolNote.Given d ∷ pool) store) (Note.Pool (PoolNote.Given d)) true refl is
 
-  pub heard_taken : (fs : List Call) (bond : Bond) (c : ℕ) → CallOpens S bond fs
+  pub heard_taken : (fs : List Call) (c : ℕ) → CallOpens S fs
       → of_top S fs Stage.Taking (before (PoolNote.Taken c ∷ pool) store) ≡ of_top S fs (Stage.Beginning c) (said (Line.Take (Some c)))
   unfolding ask
-  heard_taken (Frame.Body m place catch (Some i) ∷ fs) bond c opens = refl
-  heard_taken (Frame.Body m place catch None ∷ fs) bond c opens = absurd opens
-  heard_taken (Frame.Round round todo at place x ∷ fs) bond c opens = absurd opens
-  heard_taken (Frame.Now listener place ∷ fs) bond c opens = absurd opens
-  heard_taken [] bond c opens = absurd opens
+  heard_taken (Frame.Body m place catch (Some i) ∷ fs) c opens = refl
+  heard_taken (Frame.Body m place catch None ∷ fs) c opens = absurd opens
+  heard_taken (Frame.Round round todo at place x ∷ fs) c opens = absurd opens
+  heard_taken (Frame.Now listener place ∷ fs) c opens = absurd opens
+  heard_taken [] c opens = absurd opens
 
-  pub heard_empty : (fs : List Call) (bond : Bond) → CallOpens S bond fs
+  pub heard_empty : (fs : List Call) → CallOpens S fs
       → of_top S fs Stage.Taking (before (PoolNote.Empty ∷ pool) store) ≡ finds_none S fs (said (Line.Take None))
   unfolding ask
-  heard_empty (Frame.Body m place catch (Some i) ∷ fs) bond opens = refl
-  heard_empty (Frame.Body m place catch None ∷ fs) bond opens = absurd opens
-  heard_empty (Frame.Round round todo at place x ∷ fs) bond opens = absurd opens
-  heard_empty (Frame.Now listener place ∷ fs) bond opens = absurd opens
-  heard_empty [] bond opens = absurd opens
+  heard_empty (Frame.Body m place catch (Some i) ∷ fs) opens = refl
+  heard_empty (Frame.Body m place catch None ∷ fs) opens = absurd opens
+  heard_empty (Frame.Round round todo at place x ∷ fs) opens = absurd opens
+  heard_empty (Frame.Now listener place ∷ fs) opens = absurd opens
+  heard_empty [] opens = absurd opens
 
-  pub heard_begin : (fs : List Call) (bond : Bond) (c t : ℕ) → CallOpens S bond fs
+  pub heard_begin : (fs : List Call) (c t : ℕ) → CallOpens S fs
       → of_top S fs (Stage.Beginning c) (before pool (StoreNote.Begin t ∷ store)) ≡ starts S fs c t (said (Line.Begin t))
   unfolding begins ask
-  heard_begin (Frame.Body m place catch (Some i) ∷ fs) bond c t opens = refl
-  heard_begin (Frame.Body m place catch None ∷ fs) bond c t opens = absurd opens
-  heard_begin (Frame.Round round todo at place x ∷ fs) bond c t opens = absurd opens
-  heard_begin (Frame.Now listener place ∷ fs) bond c t opens = absurd opens
-  heard_begin [] bond c t opens = absurd opens
+  heard_begin (Frame.Body m place catch (Some i) ∷ fs) c t opens = refl
+  heard_begin (Frame.Body m place catch None ∷ fs) c t opens = absurd opens
+  heard_begin (Frame.Round round todo at place x ∷ fs) c t opens = absurd opens
+  heard_begin (Frame.Now listener place ∷ fs) c t opens = absurd opens
+  heard_begin [] c t opens = absurd opens
 
-  pub heard_commit : (fs : List Call) (bond : Bond) (t u k : ℕ) → CallCompletes S bond fs → store_answers (Want.Commit t) (StoreNote.Commit u k) ≡ true
+  pub heard_commit : (fs : List Call) (standing : Standing) (t u k : ℕ) → CallCompletes S standing fs → store_answers (Want.Commit t) (StoreNote.Commit u k) ≡ true
       → of_top S fs (Stage.Committing t) (before pool (StoreNote.Commit u k ∷ store)) ≡ of_top S fs Stage.Completing (said (Line.Commit u k))
-  heard_commit (Frame.Body m place catch (Some i) ∷ fs) bond t u k completing is =
+  heard_commit (Frame.Body m place catch (Some i) ∷ fs) standing t u k completing is =
       asked (Want.Commit t) (λ _. completes S m i (rest_of i.phase)) (before pool (StoreNote.Commit u k ∷ store)) (Note.Store (StoreNote.Commit u k)) true refl is
-  heard_commit (Frame.Body m place catch None ∷ fs) bond t u k completing is = absurd completing
-  heard_commit (Frame.Round round todo at place x ∷ fs) bond t u k completing is = absurd completing
-  heard_commit (Frame.Now listener place ∷ fs) bond t u k completing is = absurd completing
-  heard_commit [] bond t u k completing is = absurd completing
+  heard_commit (Frame.Body m place catch None ∷ fs) standing t u k completing is = absurd completing
+  heard_commit (Frame.Round round todo at place x ∷ fs) standing t u k completing is = absurd completing
+  heard_commit (Frame.Now listener place ∷ fs) standing t u k completing is = absurd completing
+  heard_commit [] standing t u k completing is = absurd completing
 
-  pub heard_rollback : (fs : List Call) (bond : Bond) (t u : ℕ) → CallCompletes S bond fs → store_answers (Want.Rollback t) (StoreNote.Rollback u) ≡ true
+  pub heard_rollback : (fs : List Call) (standing : Standing) (t u : ℕ) → CallCompletes S standing fs → store_answers (Want.Rollback t) (StoreNote.Rollback u) ≡ true
       → of_top S fs (Stage.RollingBack t) (before pool (StoreNote.Rollback u ∷ store)) ≡ of_top S fs Stage.Completing (said (Line.Rollback u))
-  heard_rollback (Frame.Body m place catch (Some i) ∷ fs) bond t u completing is =
+  heard_rollback (Frame.Body m place catch (Some i) ∷ fs) standing t u completing is =
       asked (Want.Rollback t) (λ _. completes S m i (rest_of i.phase)) (before pool (StoreNote.Rollback u ∷ store)) (Note.Store (StoreNote.Rollback u)) true refl is
-  heard_rollback (Frame.Body m place catch None ∷ fs) bond t u completing is = absurd completing
-  heard_rollback (Frame.Round round todo at place x ∷ fs) bond t u completing is = absurd completing
-  heard_rollback (Frame.Now listener place ∷ fs) bond t u completing is = absurd completing
-  heard_rollback [] bond t u completing is = absurd completing
+  heard_rollback (Frame.Body m place catch None ∷ fs) standing t u completing is = absurd completing
+  heard_rollback (Frame.Round round todo at place x ∷ fs) standing t u completing is = absurd completing
+  heard_rollback (Frame.Now listener place ∷ fs) standing t u completing is = absurd completing
+  heard_rollback [] standing t u completing is = absurd completing
+
+  pub heard_release : (fs : List Call) (standing : Standing) (t u : ℕ) → CallCompletes S standing fs → store_answers (Want.Release t) (StoreNote.Release u) ≡ true
+      → of_top S fs (Stage.Releasing t) (before pool (StoreNote.Release u ∷ store)) ≡ of_top S fs Stage.Completing (said (Line.Release u))
+  heard_release (Frame.Body m place catch (Some i) ∷ fs) standing t u completing is =
+      asked (Want.Release t) (λ _. completes S m i (rest_of i.phase)) (before pool (StoreNote.Release u ∷ store)) (Note.Store (StoreNote.Release u)) true refl is
+  heard_release (Frame.Body m place catch None ∷ fs) standing t u completing is = absurd completing
+  heard_release (Frame.Round round todo at place x ∷ fs) standing t u completing is = absurd completing
+  heard_release (Frame.Now listener place ∷ fs) standing t u completing is = absurd completing
+  heard_release [] standing t u completing is = absurd completing
+
+  pub heard_return : (fs : List Call) (standing : Standing) (t u : ℕ) → CallCompletes S standing fs → store_answers (Want.BackTo t) (StoreNote.BackTo u) ≡ true
+      → of_top S fs (Stage.GoingBack t) (before pool (StoreNote.BackTo u ∷ store)) ≡ of_top S fs Stage.Completing (record (said (Line.BackTo u)) { context = with_global_mark false context })
+  heard_return (Frame.Body m place catch (Some i) ∷ fs) standing t u completing is =
+      asked (Want.BackTo t) (λ _ back. completes S m i (rest_of i.phase) (with_context (with_global_mark false back.context) back)) (before pool (StoreNote.BackTo u ∷ store)) (Note.Store (StoreNote.BackTo u)) true refl is
+  heard_return (Frame.Body m place catch None ∷ fs) standing t u completing is = absurd completing
+  heard_return (Frame.Round round todo at place x ∷ fs) standing t u completing is = absurd completing
+  heard_return (Frame.Now listener place ∷ fs) standing t u completing is = absurd completing
+  heard_return [] standing t u completing is = absurd completing
+
+  pub heard_point : (fs : List Call) (standing : Standing) (t u : ℕ) → CallPoints S standing fs → store_answers (Want.Point t) (StoreNote.Point u) ≡ true
+      → of_top S fs (Stage.Pointing t) (before pool (StoreNote.Point u ∷ store)) ≡ starts_pointed S fs (said (Line.Savepoint u))
+  heard_point (Frame.Body m place catch (Some i) ∷ fs) standing t u points is =
+      asked (Want.Point t) (λ _. pointed S m) (before pool (StoreNote.Point u ∷ store)) (Note.Store (StoreNote.Point u)) true refl is
+  heard_point (Frame.Body m place catch None ∷ fs) standing t u points is = absurd points
+  heard_point (Frame.Round round todo at place x ∷ fs) standing t u points is = absurd points
+  heard_point (Frame.Now listener place ∷ fs) standing t u points is = absurd points
+  heard_point [] standing t u points is = absurd points
 
   -- the connection was given back: whatever is carried until what was suspended is resumed
   pub heard_back : (fs : List Call) (bound : Bound) (d : ℕ) (other : Context) → GivesLast fs → pool_answers (Want.Give bound.connection) (PoolNote.Given d) ≡ true

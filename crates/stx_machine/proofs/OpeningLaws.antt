@@ -1,6 +1,8 @@
 -- What the table of openings tells of the context.
 use Rattle.std.proofs.Common.{◌≡◌, ◌<◌, ◌≤◌, ◌∷◌, ◌++◌, [], Bool, true, false, List, Option, Some, None, refl, sym, ap, ◌∙◌, subst, arith, length}
+use Rattle.std.specs.Prelude.{IsSome}
 use Rattle.std.specs.Option.{is_some, option_map}
+use Rattle.stx_conn.specs.Bindings.{Binding, live}
 use Rattle.stx_sync.specs.Registries.{Registrations}
 use Rattle.std.proofs.lemmas.Bool.{false≢true}
 use Rattle.stx_scenario.specs.declared.numbers.ClassNo.{ClassNo}
@@ -11,11 +13,14 @@ use Rattle.stx_scenario.specs.declared.scenario.TxAttr.{TxAttr}
 use Rattle.stx_base.specs.declared.manager.Opening.{Opening}
 use Rattle.stx_base.specs.declared.history.PoolNote.{PoolNote}
 use Rattle.stx_base.specs.declared.history.StoreNote.{StoreNote}
-use Rattle.stx_model.specs.Contexts.{Context, Live, Registration, bare}
+use Rattle.stx_scenario.specs.declared.numbers.MethodNo.{MethodNo}
+use Rattle.stx_scenario.specs.declared.scenario.Scenario.{Scenario}
+use Rattle.stx_machine.specs.declared.stage.Stage.{Stage}
+use Rattle.stx_machine.specs.Machine.{attribute_of, suspends, told_by}
+use Rattle.stx_model.specs.Contexts.{Context, Live, Registration, bare, ordered, registered}
 use Rattle.stx_model.specs.Meanings.{State}
 use Rattle.stx_model.specs.Opening.{opening, opening_in, opening_without, opening_within, owns_empty}
 use Rattle.stx_model.specs.Scopes.{suspend, suspended}
-use Rattle.stx_model.specs.Built.{is_nested}
 
 module _ (settings : Settings) where
   -- ---- refusals
@@ -154,15 +159,6 @@ module _ (settings : Settings) where
 
   -- ---- savepoints
 
-  point_within : (live : Live) (p : Propagation) → is_nested p ≡ false → opening_within settings live p ≡ Opening.Point → ⊥
-  point_within live Propagation.Required other is = cc
-  point_within live Propagation.Supports other is = cc
-  point_within live Propagation.Mandatory other is = cc
-  point_within live Propagation.RequiresNew other is = cc
-  point_within live Propagation.NotSupported other is = cc
-  point_within live Propagation.Never other is = cc
-  point_within live Propagation.Nested other is = absurd (false≢true (sym other))
-
   point_without : (context : Context) (p : Propagation) → opening_without settings context p ≡ Opening.Point → ⊥
   point_without context Propagation.Required is = cc
   point_without context Propagation.Supports is = cc
@@ -172,14 +168,14 @@ module _ (settings : Settings) where
   point_without context Propagation.Never is = cc
   point_without context Propagation.Nested is = cc
 
-  point_in : (a : TxAttr) (context : Context) (tx : Option Live) → is_nested a.propagation ≡ false → opening_in settings a context tx ≡ Opening.Point → ⊥
-  point_in a context (Some live) other is = point_within live a.propagation other is
-  point_in a context None other is = point_without context a.propagation is
+  point_in : (a : TxAttr) (context : Context) (tx : Option Live) → opening_in settings a context tx ≡ Opening.Point → IsSome tx
+  point_in a context (Some live) is = refl
+  point_in a context None is = absurd (point_without context a.propagation is)
 
-  -- only nested opens a savepoint
-  pub no_point : (a : TxAttr) (context : Context) → is_nested a.propagation ≡ false → opening settings a context ≡ Opening.Point → ⊥
+  -- a savepoint is opened only in a transaction
+  pub point_live : (a : TxAttr) (context : Context) → opening settings a context ≡ Opening.Point → IsSome context.tx
   unfolding opening
-  no_point a context other is = point_in a context context.tx other is
+  point_live a context is = point_in a context context.tx is
 
 -- ---- suspension
 
@@ -201,3 +197,18 @@ found_for settings context a b r o same found is = ap (λ a. opening settings a 
 pub none_of : (syncs : Option Registrations) → option_map (λ r. r.list) syncs ≡ None → syncs ≡ None
 none_of None is = refl
 none_of (Some r) is = cc
+
+-- and where it has a live transaction, the client carries one
+pub some_of : (tx : Option Binding) → IsSome (option_map live tx) → IsSome tx
+some_of (Some binding) is = refl
+some_of None is = cc
+
+-- ---- what an opening tells
+
+-- a fresh scope tells all registrations, since where it suspends nothing there are none
+pub told_fresh : (S : Scenario) (m : MethodNo) (catch : Option ClassNo) (context : Context) (s o : Bool) → opening S.settings (attribute_of S m) context ≡ Opening.Fresh s o
+    → told_by S (Stage.Opening m catch) context ≡ ordered (registered context.syncs)
+told_fresh S m catch context true o is = ap (λ z. elim (suspends z) as (λ _. List Registration) [ true ↦ ordered (registered context.syncs) | false ↦ [] ]) is
+told_fresh S m catch context false o is =
+    ap (λ z. elim (suspends z) as (λ _. List Registration) [ true ↦ ordered (registered context.syncs) | false ↦ [] ]) is
+    ∙ ap (λ k. ordered (registered k.syncs)) (sym (fresh_bare S.settings (attribute_of S m) context false o is refl))

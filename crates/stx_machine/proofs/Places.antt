@@ -7,7 +7,7 @@ use Rattle.stx_scenario.specs.declared.numbers.ClassNo.{ClassNo}
 use Rattle.stx_scenario.specs.declared.scenario.TxAttr.{TxAttr}
 use Rattle.stx_scenario.specs.BuiltIn.{built_in}
 use Rattle.stx_base.specs.Attributes.{attribute, method_attribute}
-use Rattle.std.specs.List.{AllByRecursion}
+use Rattle.std.specs.List.{AllByRecursion, AllPass}
 use Rattle.std.proofs.lemmas.Option.{slice_get_within}
 use Rattle.stx_scenario.specs.declared.numbers.MethodNo.{MethodNo}
 use Rattle.stx_scenario.specs.declared.scenario.Method.{Method}
@@ -18,9 +18,9 @@ use Rattle.stx_base.specs.Valid.{names_known, own_known, MethodInOrder, CallsInO
 use Rattle.stx_base.specs.Weight.{body_in, body_of, rank}
 use Rattle.stx_base.proofs.ValidLaws.{entry_of, HasFewRules, few_rules}
 use Rattle.stx_machine.specs.Machine.{attribute_of, default_attribute}
-use Rattle.stx_model.specs.Built.{is_built, has_nested, is_nested, IsBuiltMethod}
+use Rattle.stx_model.specs.Built.{is_built}
 use Rattle.stx_model.specs.Playable.{IsPlayable}
-use Rattle.stx_model.proofs.Callable.{StatementBelow, StatementsBelow}
+use Rattle.stx_model.specs.Below.{StatementBelow, StatementsBelow}
 use Rattle.stx_model.proofs.CallableLaw.{callable_if_valid}
 
 -- ---- lists
@@ -61,7 +61,7 @@ module _ (S : Scenario) (m : MethodNo) (method : Method) (there : slice_get S.me
 
     module _ (place : ℕ) (s : Stmt) (here : slice_get method.body place ≡ Some s) where
       pub built_at : is_built s ≡ true
-      built_at = entry_of (λ s. is_built s ≡ true) method.body place s (entry_of (IsBuiltMethod S) S.methods m.0 method playable.built.methods there).body here
+      built_at = entry_of (λ s. is_built s ≡ true) method.body place s (entry_of (λ (method : Method). AllPass is_built method.body) S.methods m.0 method playable.built.methods there) here
 
       pub known_at : names_known S s ≡ true
       known_at = entry_of (λ s. names_known S s ≡ true) method.body place s in_order.body.known here
@@ -93,22 +93,6 @@ module _ (S : Scenario) (n top : ℕ) (calls : List MethodNo) (there : slice_get
   is_low = playable.order.shallow m is_method
 
 -- ---- attributes and classes
-
--- no method's propagation is nested
-nested_in : (S : Scenario) (o : Option Method) → ((method : Method) → o ≡ Some method → has_nested (method_attribute S method) ≡ false)
-    → has_nested (option_and_then (method_attribute S) o) ≡ false
-nested_in S None plain = refl
-nested_in S (Some method) plain = plain method refl
-
-plain_or_default : (o : Option TxAttr) → has_nested o ≡ false → is_nested (unwrap_or o default_attribute).propagation ≡ false
-plain_or_default (Some a) plain = plain
-plain_or_default None plain = refl
-
-pub plain : (S : Scenario) (m : MethodNo) → IsPlayable S → is_nested (attribute_of S m).propagation ≡ false
-unfolding attribute_of
-plain S m playable =
-    plain_or_default (attribute S m)
-    (nested_in S (slice_get S.methods m.0) (λ method there. (entry_of (IsBuiltMethod S) S.methods m.0 method playable.built.methods there).tx))
 
 few_or_default : (o : Option TxAttr) → IfSome o HasFewRules → length (unwrap_or o default_attribute).rules ≤ 64
 few_or_default (Some a) few = few

@@ -15,7 +15,7 @@ use Rattle.stx_model.specs.Scopes.{resume as resume_scope}
 use Rattle.stx_context.specs.Carrying.{Carried, context_of}
 use Rattle.stx_machine.specs.declared.interception.Interception.{Interception}
 use Rattle.stx_machine.specs.declared.interception.Phase.{Phase}
-use Rattle.stx_machine.specs.Sound.{Bond, OpensIn, RunsIn}
+use Rattle.stx_machine.specs.Sound.{Standing, OpensIn, PointsIn, RunsIn}
 use Rattle.stx_machine.specs.declared.machine.Machine.{Machine}
 use Rattle.stx_machine.specs.declared.stage.Stage.{Stage}
 use Rattle.stx_scenario.specs.declared.scenario.Scenario.{Scenario}
@@ -36,7 +36,7 @@ popped old new None is = ap reverse (is ∙ append-nil new.items)
 
 -- what a pushed call means
 pub resume_pushed : (S : Scenario) (old new : Room Call) (f : Call) (r : Result) → new.items ≡ old.items ++ f ∷ []
-    → resume S (stack old) (frame_after S f r) ≡ resume S (stack new) r
+    → resume S (stack old) (frame_after S (stack old) f r) ≡ resume S (stack new) r
 unfolding resume
 resume_pushed S old new f r is = ap (λ fs. resume S fs r) (sym (pushed old new f is))
 
@@ -70,11 +70,19 @@ pub opens_only : (i : Interception) (phase : Phase) → OpensIn i phase → phas
 opens_only i Phase.Opening opens = refl
 opens_only i Phase.Running opens = absurd opens
 opens_only i (Phase.Completing rest x) opens = absurd opens
+opens_only i (Phase.Round course) opens = absurd opens
 
-pub runs_only : (bond : Bond) (i : Interception) (phase : Phase) → RunsIn bond i phase → phase ≡ Phase.Running
-runs_only bond i Phase.Running runs = refl
-runs_only bond i Phase.Opening runs = absurd runs
-runs_only bond i (Phase.Completing rest x) runs = absurd runs
+pub runs_only : (standing : Standing) (i : Interception) (phase : Phase) → RunsIn standing i phase → phase ≡ Phase.Running
+runs_only standing i Phase.Running runs = refl
+runs_only standing i Phase.Opening runs = absurd runs
+runs_only standing i (Phase.Completing rest x) runs = absurd runs
+runs_only standing i (Phase.Round course) runs = absurd runs
+
+pub points_only : (i : Interception) (phase : Phase) → PointsIn i phase → phase ≡ Phase.Opening
+points_only i Phase.Opening points = refl
+points_only i Phase.Running points = absurd points
+points_only i (Phase.Completing rest x) points = absurd points
+points_only i (Phase.Round course) points = absurd points
 
 -- what was suspended is there
 pub resumes_some : (older : Option Carried) (st : State) → IsSome older → resume_scope (unwrap_or (option_map context_of older) bare) st ≡ resumed (option_map context_of older) st

@@ -1,9 +1,11 @@
 -- What is left of a client's script at each stage of its machine.
-use Rattle.std.specs.Prelude.{◌≡◌, ℕ, ◌+◌, ◌<◌, length, ⊤, ℤ, ◌+ℤ◌, Bool, true, false, List, [], ◌∷◌, ◌++◌, ◌≤◌, drop, reverse, Option, Some, None, unwrap_or}
-use Rattle.std.specs.Option.{option_map}
+use Rattle.std.specs.Prelude.{◌≡◌, ℕ, zero, suc, ◌+◌, ◌*◌, ◌<◌, length, map, slice_get, ⊤, ℤ, ◌+ℤ◌, Bool, true, false, List, [], ◌∷◌, ◌++◌, ◌≤◌, drop, reverse, Option, Some, None, IsSome, IfSome, unwrap_or}
+use Rattle.std.specs.Option.{is_some, option_map, option_map_or}
 use Rattle.stx_scenario.specs.declared.numbers.ClassNo.{ClassNo}
+use Rattle.stx_scenario.specs.declared.numbers.ListenerNo.{ListenerNo}
 use Rattle.stx_scenario.specs.declared.numbers.MethodNo.{MethodNo}
-use Rattle.stx_scenario.specs.declared.classes.TheConstants.{CANNOT_GET_JDBC_CONNECTION_EXCEPTION}
+use Rattle.stx_scenario.specs.declared.classes.TheConstants.{CANNOT_CREATE_TRANSACTION_EXCEPTION, CANNOT_GET_JDBC_CONNECTION_EXCEPTION}
+use Rattle.stx_scenario.specs.declared.scenario.Listener.{Listener}
 use Rattle.stx_scenario.specs.declared.scenario.Scenario.{Scenario}
 use Rattle.stx_scenario.specs.declared.scenario.Propagation.{Propagation}
 use Rattle.stx_scenario.specs.declared.scenario.Rule.{Rule}
@@ -16,25 +18,35 @@ use Rattle.stx_base.specs.declared.history.Answer.{Answer}
 use Rattle.stx_base.specs.declared.history.PoolNote.{PoolNote}
 use Rattle.stx_base.specs.declared.history.StoreNote.{StoreNote}
 use Rattle.stx_base.specs.declared.line.Line.{Line}
+use Rattle.stx_base.specs.declared.line.Label.{Label}
+use Rattle.stx_base.specs.declared.manager.Round.{Round}
 use Rattle.stx_base.specs.declared.manager.Action.{Action}
 use Rattle.stx_base.specs.declared.history.Note.{Note}
+use Rattle.stx_base.specs.declared.manager.Ending.{Ending}
 use Rattle.stx_base.specs.declared.manager.Kind.{Kind}
+use Rattle.stx_base.specs.declared.manager.Opening.{Opening}
 use Rattle.stx_base.specs.Notes.{pool_line, store_line}
 use Rattle.stx_base.specs.Attributes.{attribute}
 use Rattle.stx_base.specs.Weight.{body_of, rank}
-use Rattle.stx_model.specs.Contexts.{Context, Live, bare, without_syncs}
-use Rattle.stx_model.specs.Meanings.{State, Result, Over, Stops, Breaks, Meaning, and_then, finally, with_context, ask, on_take}
+use Rattle.stx_model.specs.Contexts.{Context, Live, Registration, bare, ordered, ordered_labels, registered, with_global_mark, without_syncs}
+use Rattle.stx_model.specs.Ending.{completion_refused}
+use Rattle.stx_model.specs.Listeners.{runs_in}
+use Rattle.stx_model.specs.Meanings.{State, Result, Over, Stops, Breaks, Meaning, and_then, finally, say, with_context, ask, on_take}
 use Rattle.stx_model.specs.Opening.{opening}
-use Rattle.stx_model.specs.Rounds.{Calls, Proxied}
-use Rattle.stx_model.specs.Scopes.{Scope, leaves, acts, ends, begins, opens, fresh_context, in_scope, empty, older_if, resumed, ruled, started_syncs, suspend, suspended}
-use Rattle.stx_model.specs.Scopes.{resume as resume_scope}
+use Rattle.stx_model.specs.Rounds.{Calls, Proxied, callback, callback_line, stopping_round, swallowing_round, swallows, sync_body}
+use Rattle.stx_model.specs.Scopes.{Scope, leaves, acts, ends, begins, opens, fresh_context, in_scope, empty, later_or, live_in, older_if, resumed, ruled, say_each, say_unbind, started_syncs, suspend, suspended, within}
+use Rattle.stx_model.specs.Scopes.{completes as completes_so, resume as resume_scope}
 use Rattle.stx_model.specs.Script.{body, unscoped, invoked, calls_below, tops, calls_of}
 use Rattle.stx_model.specs.Statements.{RowAccess, throws, concludes, caught, is_value, unless_busy, access_row, nothing_more, needed, added, in_transaction, on_connection}
 use Rattle.stx_context.specs.Carrying as carrying
 use Rattle.stx_context.specs.Carrying.{Carried, context_of}
 use Rattle.stx_manager.specs.Scopes.{OpenScope}
+use Rattle.stx_sync.specs.declared.registered.Registered.{Registered}
+use Rattle.stx_sync.specs.Registries.{registration}
 use Rattle.stx_frames.specs.declared.frame.Frame.{Frame}
 use Rattle.stx_machine.specs.declared.completion.Intercepted.{Intercepted}
+use Rattle.stx_machine.specs.declared.rounds.Telling.{Telling}
+use Rattle.stx_machine.specs.declared.interception.Course.{Course}
 use Rattle.stx_machine.specs.declared.interception.Interception.{Interception}
 use Rattle.stx_machine.specs.declared.interception.Phase.{Phase}
 use Rattle.stx_machine.specs.declared.machine.Machine.{Machine}
@@ -50,6 +62,8 @@ abbrev pub falls : Stage → Bool
 falls (Stage.Over x) = true
 falls (Stage.Opening m catch) = true
 falls Stage.Completing = true
+falls Stage.Rounding = true
+falls Stage.Resuming = true
 falls _ = false
 
 -- memory ran out
@@ -68,8 +82,11 @@ want_of (Stage.Accessing place a d) = want_at place a
 want_of (Stage.Returning c x) = Want.Give c
 want_of Stage.Taking = Want.Take
 want_of (Stage.Beginning c) = Want.Begin
+want_of (Stage.Pointing t) = Want.Point t
 want_of (Stage.Committing t) = Want.Commit t
 want_of (Stage.RollingBack t) = Want.Rollback t
+want_of (Stage.GoingBack t) = Want.BackTo t
+want_of (Stage.Releasing t) = Want.Release t
 want_of (Stage.GivingBack bound) = Want.Give bound.connection
 want_of Stage.Done = Want.Done
 want_of _ = Want.Failed
@@ -116,6 +133,10 @@ statements S m place = body S (inside S m) (drop place (body_of S m))
 abbrev pub opened : Scenario → MethodNo → Meaning
 opened S m st = opens S (inside S m) m (attribute_of S m) (statements S m 0) (opening S.settings (attribute_of S m) st.context) st
 
+-- a nested scope on the savepoint that was just made
+abbrev pub pointed : Scenario → MethodNo → Meaning
+pointed S m st = within S (inside S m) m Kind.Point (attribute_of S m) (statements S m 0) st
+
 -- the begin of a fresh scope on the connection that was taken, if one was
 abbrev pub begun : Scenario → MethodNo → Interception → Option ℕ → Meaning
 begun S m i = begins S (inside S m) m (attribute_of S m) (statements S m 0) i.scope.owns (unwrap_or (option_map context_of i.scope.suspended) bare)
@@ -134,43 +155,152 @@ scope_of m i = record { method = m; kind = i.scope.kind; owns = i.scope.owns; ol
 
 abbrev pub rest_of : Phase → List Action
 rest_of (Phase.Completing rest x) = rest.now
+rest_of (Phase.Round course) = course.rest.now
 rest_of _ = []
 
 abbrev pub thrown_of : Phase → Option ClassNo
 thrown_of (Phase.Completing rest x) = x
+thrown_of (Phase.Round course) = course.thrown
 thrown_of _ = None
 
 -- the actions that are left of a completion
 abbrev pub completes : Scenario → MethodNo → Interception → List Action → Meaning
 completes S m i rest = acts S (inside S m) (scope_of m i) rest (thrown_of i.phase)
 
+-- the actions after a round in which y was thrown, or nothing: a before_commit round that throws ends in a rollback
+abbrev pub rest_after : Kind → Round → List Action → Option ClassNo → List Action
+rest_after kind Round.BeforeCommit rest (Some y) = completion_refused kind
+rest_after kind round rest y = rest
+
+-- a completion after a round in which y was thrown, or nothing
+abbrev pub after_round : Scenario → MethodNo → Interception → Course → Option ClassNo → Meaning
+after_round S m i course y = acts S (inside S m) (scope_of m i) (rest_after i.scope.kind course.round course.rest.now y) (later_or y course.thrown)
+
 -- a call after a piece of it that came to r. Before its scope is open, and while it completes, the piece is all of it
 abbrev pub phase_after : Scenario → MethodNo → ℕ → Interception → Phase → Result → Result
 phase_after S m place i Phase.Running r = finally (and_then r (statements S m place)) (ends S (inside S m) (scope_of m i) (attribute_of S m))
+phase_after S m place i (Phase.Round course) r = finally r (after_round S m i course)
 phase_after S m place i _ r = r
 
 abbrev pub call_after : Scenario → MethodNo → ℕ → Option Interception → Result → Result
 call_after S m place None r = finally (and_then r (statements S m place)) (leaves m)
 call_after S m place (Some i) r = phase_after S m place i i.phase r
 
-abbrev pub frame_after : Scenario → Call → Result → Result
-frame_after S (Frame.Body m place catch scope) r = finally (call_after S m place scope r) (caught S catch)
-frame_after S _ r = r
+-- ---- rounds
+
+-- the first exception ends the round
+abbrev pub stops : Round → Bool
+stops Round.BeforeCommit = true
+stops Round.AfterCommit = true
+stops _ = false
+
+-- the status that a round's callbacks are told, where the last one tells this
+abbrev pub status : Round → Bool → Bool
+status Round.AfterCompletion committed = committed
+status Round.BeforeCompletion committed = false
+status _ committed = true
+
+-- the callbacks of these registrations
+abbrev pub tells : Scenario → Calls → Round → Bool → List Registration → Meaning
+tells S calls Round.BeforeCommit committed rs st = stopping_round S calls Round.BeforeCommit rs st
+tells S calls Round.BeforeCompletion committed rs st = swallowing_round S calls Round.BeforeCompletion false rs st
+tells S calls Round.AfterCommit committed rs st = stopping_round S calls Round.AfterCommit rs st
+tells S calls Round.AfterCompletion committed rs st = swallowing_round S calls Round.AfterCompletion committed rs st
+
+-- the callbacks of these registrations, after a callback that came to r
+abbrev pub told_after : Scenario → Calls → Round → Bool → List Registration → Result → Result
+told_after S calls round committed later r =
+    elim (stops round) [
+      | true ↦ and_then r (tells S calls round committed later)
+      | false ↦ finally r (λ x after. tells S calls round committed later (swallows x after))
+    ]
+
+-- a whole round; before the last one the registrations are taken out of the context
+abbrev pub whole_round : Scenario → Calls → Round → Bool → Meaning
+whole_round S calls Round.AfterCompletion committed st =
+    tells S calls Round.AfterCompletion committed (ordered (registered st.context.syncs)) (with_context (without_syncs st.context) st)
+whole_round S calls round committed st = tells S calls round committed (ordered (registered st.context.syncs)) st
+
+-- what a listener does in a round, if its phase is of that round
+abbrev pub listener_callback : Round → Bool → Option Listener → List Stmt
+listener_callback round committed (Some listener) = elim (runs_in listener.phase round committed) [ true ↦ listener.body | false ↦ [] ]
+listener_callback round committed None = []
+
+-- the statements of a registration's callback
+abbrev pub callback_of : Scenario → Round → Bool → Label → List Stmt
+callback_of S round committed (Label.Sync s) = sync_body round (slice_get S.syncs s.0)
+callback_of S round committed (Label.Listener l) = listener_callback round committed (slice_get S.listeners l.0)
+
+-- the callback under way, where so many registrations were told: the last of them
+abbrev pub last_told : Scenario → Course → List Registered → ℕ → List Stmt
+last_told S course todo zero = []
+last_told S course todo (suc n) =
+    option_map_or (λ (r : Registered). callback_of S course.round (status course.round course.committed) r.label) (slice_get todo n) []
+
+-- the registrations that are still to be told
+abbrev pub untold : List Registered → ℕ → List Registration
+untold todo at = map registration (drop at todo)
+
+-- a round after a piece of the callback under way that came to r
+abbrev pub course_after : Scenario → Calls → Course → List Registered → ℕ → ℕ → Result → Result
+course_after S calls course todo at place r =
+    told_after S calls course.round course.committed (untold todo at) (and_then r (callback S calls (drop place (last_told S course todo at))))
+
+abbrev pub in_round : Scenario → Calls → List Registered → ℕ → ℕ → Phase → Result → Result
+in_round S calls todo at place (Phase.Round course) r = course_after S calls course todo at place r
+in_round S calls todo at place _ r = r
+
+-- the call whose completion a round is part of stands below it
+abbrev pub round_after : Scenario → List Registered → ℕ → ℕ → List Call → Result → Result
+round_after S todo at place (Frame.Body m statement catch (Some i) ∷ fs) r = in_round S (inside S m) todo at place i.phase r
+round_after S todo at place _ r = r
+
+-- a body after a piece of it that came to r, and what its call catches
+abbrev pub body_after : Scenario → MethodNo → ℕ → Option ClassNo → Option Interception → Result → Result
+body_after S m place catch scope r = finally (call_after S m place scope r) (caught S catch)
+
+-- a frame after a piece of it that came to r, on top of these
+abbrev pub frame_after : Scenario → List Call → Call → Result → Result
+frame_after S fs (Frame.Body m place catch scope) r = body_after S m place catch scope r
+frame_after S fs (Frame.Round round todo at place x) r = round_after S todo at place fs r
+frame_after S fs (Frame.Now listener place) r = r
 
 -- the call under way after a piece of its innermost frame that came to r
 unfoldable pub resume : Scenario → List Call → Result → Result
 resume S [] r = r
-resume S (f ∷ fs) r = resume S fs (frame_after S f r)
+resume S (f ∷ fs) r = resume S fs (frame_after S fs f r)
 
 -- ---- stages
 
 -- the piece that is left of an intercepted call
+-- the context was resumed: its registrations are told
+abbrev pub tells_resumed : State → State
+tells_resumed st = say_each Line.Resume (ordered_labels st.context.syncs) st
+
+-- after that the completion goes on, or the call is refused whose scope found no connection
+abbrev pub resumes_call : Scenario → MethodNo → Interception → Phase → Meaning
+resumes_call S m i Phase.Opening st =
+    leaves m (Some CANNOT_CREATE_TRANSACTION_EXCEPTION) (say (Line.Throw CANNOT_CREATE_TRANSACTION_EXCEPTION) (tells_resumed st))
+resumes_call S m i (Phase.Completing rest x) st = acts S (inside S m) (scope_of m i) rest.now x (tells_resumed st)
+resumes_call S m i _ st = Breaks st
+
+-- a round of the call begins
+abbrev pub rounds_call : Scenario → MethodNo → Interception → Phase → Meaning
+rounds_call S m i (Phase.Round course) st = whole_round S (inside S m) course.round course.committed st
+rounds_call S m i _ st = Breaks st
+
 abbrev pub of_call : Scenario → MethodNo → Interception → Stage → Meaning
 of_call S m i Stage.Taking st = ask Want.Take (on_take (begun S m i)) st
 of_call S m i (Stage.Beginning c) st = begun S m i (Some c) st
+of_call S m i (Stage.Pointing t) st = ask (Want.Point t) (λ _. pointed S m) st
 of_call S m i Stage.Completing st = completes S m i (rest_of i.phase) st
+of_call S m i Stage.Rounding st = rounds_call S m i i.phase st
+of_call S m i Stage.Resuming st = resumes_call S m i i.phase st
 of_call S m i (Stage.Committing t) st = ask (Want.Commit t) (λ _. completes S m i (rest_of i.phase)) st
 of_call S m i (Stage.RollingBack t) st = ask (Want.Rollback t) (λ _. completes S m i (rest_of i.phase)) st
+of_call S m i (Stage.GoingBack t) st =
+    ask (Want.BackTo t) (λ _ back. completes S m i (rest_of i.phase) (with_context (with_global_mark false back.context) back)) st
+of_call S m i (Stage.Releasing t) st = ask (Want.Release t) (λ _. completes S m i (rest_of i.phase)) st
 of_call S m i (Stage.GivingBack bound) st = ask (Want.Give bound.connection) (λ _. completes S m i (rest_of i.phase)) st
 of_call S m i Stage.Done st = Stops Want.Done st
 of_call S m i _ st = Breaks st
@@ -300,9 +430,24 @@ GoesTo S n meaning before after =
 abbrev pub IsLonger : Machine → Machine → Type 0
 IsLonger before after = length before.lines.items < length after.lines.items
 
--- the actions that are left where the innermost call completes
+-- how much of a completion is left: each action may have a round, and a round its last callback
+abbrev pub left_round : Round → ℕ → ℕ
+left_round Round.BeforeCommit n = 4 * n + 24
+left_round round n = 4 * n
+
+abbrev pub left_after : Course → ℕ
+left_after course = left_round course.round (length course.rest.now)
+
+abbrev pub left_in : Stage → Phase → ℕ
+left_in Stage.Completing (Phase.Completing rest x) = 4 * length rest.now
+left_in Stage.Resuming (Phase.Completing rest x) = 4 * length rest.now + 1
+left_in Stage.Rounding (Phase.Round course) = left_after course + 2
+left_in (Stage.Over x) (Phase.Round course) = left_after course + 1
+left_in _ _ = 0
+
 abbrev pub left_of : Stage → List Call → ℕ
-left_of Stage.Completing (Frame.Body m place catch (Some i) ∷ fs) = length (rest_of i.phase)
+left_of stage (Frame.Body m place catch (Some i) ∷ fs) = left_in stage i.phase
+left_of stage (Frame.Round round todo at told x ∷ Frame.Body m place catch (Some i) ∷ fs) = left_in stage i.phase
 left_of _ _ = 0
 
 abbrev pub left : Machine → ℕ
@@ -336,28 +481,50 @@ new_call m catch scope outer phase = Frame.Body m 0 catch (Some (record { scope 
 -- these calls are on top of those before; nothing else changes
 pub record IsPushed (before : Machine) (call : Call) (after : Machine) : Type 0 where
   pub frames : after.frames.items ≡ before.frames.items ++ call ∷ []
+  pub room : before.frames.spare ≡ after.frames.spare + 1
   pub rest : after ≡ record before { frames = after.frames }
 
--- what was carried is suspended
-pub record Suspends (before after : Machine) : Type 0 where
+-- these are the registrations of the context by order
+abbrev pub AreTold : List Registered → Context → Type 0
+AreTold told context = map registration told ≡ ordered (registered context.syncs)
+
+-- what was carried is suspended, and so many lines told it
+pub record Suspends (told : ℕ) (before after : Machine) : Type 0 where
   pub state : (pool : List PoolNote) (store : List StoreNote) → suspend (state_before before pool store) ≡ state_before after pool store
   pub rest : after ≡ record before { context = carrying.bare; lines = after.lines }
+  pub room : before.lines.spare ≤ after.lines.spare + told + 1
+  pub longer : length before.lines.items ≤ length after.lines.items
+
+-- that the bound connection is unbound was said, if one is bound
+pub record SaysUnbind (before after : Machine) : Type 0 where
+  pub state : (pool : List PoolNote) (store : List StoreNote) → say_unbind (context_of before.context).tx (state_before before pool store) ≡ state_before after pool store
+  pub rest : after ≡ record before { lines = after.lines }
   pub room : before.lines.spare ≤ after.lines.spare + 1
   pub longer : length before.lines.items ≤ length after.lines.items
 
-pub record SuspendsIf (suspends : Bool) (before after : Machine) : Type 0 where
+pub record SuspendsIf (suspends : Bool) (told : ℕ) (before after : Machine) : Type 0 where
   pub state : (pool : List PoolNote) (store : List StoreNote) → suspended suspends (state_before before pool store) ≡ state_before after pool store
   pub rest : after ≡ record before { context = after.context; lines = after.lines }
-  pub room : before.lines.spare ≤ after.lines.spare + 1
+  pub room : before.lines.spare ≤ after.lines.spare + told + 1
   pub longer : length before.lines.items ≤ length after.lines.items
+
+-- the line that tells a registration, which was resumed or is suspended
+abbrev pub told_line : Bool → Label → Line
+told_line true label = Line.Resume label
+told_line false label = Line.Suspend label
+
+-- what is carried, where it was suspended
+abbrev pub held_if : Bool → Carried → Option Carried
+held_if true carried = Some carried
+held_if false carried = None
 
 -- an owner of synchronisation starts it
 abbrev pub with_syncs_started : Bool → Context → Context
 with_syncs_started owns context = record { tx = context.tx; syncs = started_syncs owns context.syncs }
 
--- this is carried again
+-- this is carried again, and its connection is bound; its registrations are still to be told
 pub record Resumes (before : Machine) (older : Carried) (after : Machine) : Type 0 where
-  pub state : (pool : List PoolNote) (store : List StoreNote) → resume_scope (context_of older) (state_before before pool store) ≡ state_before after pool store
+  pub state : (pool : List PoolNote) (store : List StoreNote) → resume_scope (context_of older) (state_before before pool store) ≡ tells_resumed (state_before after pool store)
   pub rest : after ≡ record before { context = older; lines = after.lines }
   pub room : before.lines.spare ≤ after.lines.spare + 1
   pub longer : length before.lines.items ≤ length after.lines.items
@@ -366,9 +533,40 @@ pub record Resumes (before : Machine) (older : Carried) (after : Machine) : Type
 abbrev pub fresh_begun : Scenario → MethodNo → Bool → Context → Option ℕ → Meaning
 fresh_begun S m owns older = begins S (inside S m) m (attribute_of S m) (statements S m 0) owns older
 
+-- a nested scope, from its savepoint on
+abbrev pub point_opened : Scenario → MethodNo → Meaning
+point_opened S m st = live_in st.context.tx (λ live. ask (Want.Point live.transaction) (λ _. pointed S m)) st
+
 -- an empty scope
 abbrev pub empty_opened : Scenario → MethodNo → Bool → Bool → Meaning
 empty_opened S m suspends owns st = empty S (inside S m) m (attribute_of S m) (statements S m 0) owns (older_if suspends st.context) (suspended suspends st)
+
+-- ---- what a small step tells
+
+abbrev pub suspends : Opening → Bool
+suspends (Opening.Fresh true owns) = true
+suspends (Opening.Empty true owns) = true
+suspends _ = false
+
+-- all registrations are told where they are suspended, where a round begins, and where they are resumed
+abbrev pub tells_all : Scenario → Stage → Context → Bool
+tells_all S (Stage.Opening m catch) context = suspends (opening S.settings (attribute_of S m) context)
+tells_all S Stage.Rounding context = true
+tells_all S Stage.Resuming context = true
+tells_all S _ context = false
+
+-- the registrations that the step at a stage tells, by order
+abbrev pub told_by : Scenario → Stage → Context → List Registration
+told_by S stage context = elim (tells_all S stage context) [ true ↦ ordered (registered context.syncs) | false ↦ [] ]
+
+-- where a scope is to be opened, the method has an attribute
+abbrev pub CanPrepare : Scenario → Stage → Type 0
+CanPrepare S (Stage.Opening m catch) = IsSome (attribute S m)
+CanPrepare S _ = ⊤
+
+-- there is room for one registration more, where synchronisation is active
+abbrev pub HasRoom : Carried → Type 0
+HasRoom carried = IfSome carried.syncs (λ r. 1 ≤ r.spare)
 
 -- ---- completion
 
@@ -380,6 +578,11 @@ put_back call phase = Frame.Body call.method call.place call.catch (Some (record
 abbrev pub on_top : Intercepted → Call
 on_top call = Frame.Body call.method call.place call.catch (Some call.interception)
 
+abbrev pub IsResuming : Phase → Type 0
+IsResuming Phase.Opening = ⊤
+IsResuming (Phase.Completing rest x) = ⊤
+IsResuming _ = ⊥
+
 -- the innermost call is an intercepted one
 abbrev pub IsIntercepting : List Call → Type 0
 IsIntercepting (Frame.Body m place catch (Some i) ∷ fs) = ⊤
@@ -389,9 +592,87 @@ IsIntercepting _ = ⊥
 abbrev pub acts_of : Scenario → Intercepted → List Action → Option ClassNo → Meaning
 acts_of S call rest x st = finally (acts S (inside S call.method) (scope_of call.method call.interception) rest x st) (caught S call.catch)
 
+-- what a round and the actions after it are to a call's caller, where the scope owns synchronisation; else only the actions
+abbrev pub round_if : Scenario → Calls → Bool → Round → Bool → Meaning
+round_if S calls owns round committed st = elim owns [ true ↦ whole_round S calls round committed st | false ↦ Over None st ]
+
+abbrev pub rounds_of : Scenario → Intercepted → Course → Meaning
+rounds_of S call course st =
+    finally
+        (finally (round_if S (inside S call.method) call.interception.scope.owns course.round course.committed st) (after_round S call.method call.interception course))
+        (caught S call.catch)
+
+-- ---- rounds
+
+-- whether a listener runs in a round
+abbrev pub listener_runs : Round → Bool → Option Listener → Bool
+listener_runs round committed (Some listener) = runs_in listener.phase round committed
+listener_runs round committed None = false
+
+abbrev pub runs_on : Scenario → ListenerNo → Round → Bool → Bool
+runs_on S l round committed = listener_runs round committed (slice_get S.listeners l.0)
+
+-- the lines with which a registration's callback begins
+abbrev pub begins_callback : Scenario → Round → Bool → Label → State → State
+begins_callback S round committed (Label.Sync s) st = say (callback_line round committed (Label.Sync s)) st
+begins_callback S round committed (Label.Listener l) st =
+    elim (runs_on S l round committed) [
+      | true ↦ say (Line.Listen l) (say (callback_line round committed (Label.Listener l)) st)
+      | false ↦ say (callback_line round committed (Label.Listener l)) st
+    ]
+
+-- they were said
+pub record SaysCallback (S : Scenario) (round : Round) (committed : Bool) (label : Label) (before after : Machine) : Type 0 where
+  pub state : (pool : List PoolNote) (store : List StoreNote) → begins_callback S round committed label (state_before before pool store) ≡ state_before after pool store
+  pub rest : after ≡ record before { lines = after.lines }
+  pub room : before.lines.spare ≤ after.lines.spare + 2
+  pub longer : length before.lines.items < length after.lines.items
+
+-- the innermost call is at a round
+abbrev pub IsInRoundPhase : Phase → Type 0
+IsInRoundPhase (Phase.Round course) = ⊤
+IsInRoundPhase _ = ⊥
+
+abbrev pub IsRounding : List Call → Type 0
+IsRounding (Frame.Body m place catch (Some i) ∷ fs) = IsInRoundPhase i.phase
+IsRounding _ = ⊥
+
+-- what a round that was taken off comes to after a piece of the callback under way
+abbrev pub telling_after : Scenario → Telling → Result → Result
+telling_after S t r =
+    finally
+        (finally (course_after S (inside S t.call.method) t.course t.todo t.at t.place r) (after_round S t.call.method t.call.interception t.course))
+        (caught S t.call.catch)
+
+-- what the registrations that are still to be told come to
+abbrev pub tells_on : Scenario → Telling → Meaning
+tells_on S t st =
+    finally
+        (finally (tells S (inside S t.call.method) t.course.round t.course.committed (untold t.todo t.at) st) (after_round S t.call.method t.call.interception t.course))
+        (caught S t.call.catch)
+
+-- a round's frame
+abbrev pub round_frame : Telling → Call
+round_frame t = Frame.Round t.course.round t.todo t.at t.place None
+
+-- a round is on top of the call that it is part of, and both on top of those before
+pub record IsToldOn (before : Machine) (t : Telling) (after : Machine) : Type 0 where
+  pub frames : stack after.frames ≡ round_frame t ∷ put_back t.call (Phase.Round t.course) ∷ stack before.frames
+  pub room : before.frames.spare ≡ after.frames.spare + 2
+  pub rest : after ≡ record before { frames = after.frames }
+
 -- the end of a call's scope, and all after it
 abbrev pub ends_of : Scenario → Intercepted → Option ClassNo → Meaning
 ends_of S call x st = finally (ends S (inside S call.method) (scope_of call.method call.interception) (attribute_of S call.method) x st) (caught S call.catch)
+
+-- the completion of a call's scope that ends so
+abbrev pub completes_of : Scenario → Intercepted → Ending → Option ClassNo → Meaning
+completes_of S call e x st = finally (completes_so S (inside S call.method) (scope_of call.method call.interception) e x st) (caught S call.catch)
+
+-- the innermost call is one for which what was suspended is carried again: it completes, or was refused
+abbrev pub ResumesOn : List Call → Type 0
+ResumesOn (Frame.Body m place catch (Some i) ∷ fs) = IsResuming i.phase
+ResumesOn _ = ⊥
 
 -- the rules' line, where the body threw
 pub record Rules (S : Scenario) (rules : List Rule) (x : Option ClassNo) (before after : Machine) : Type 0 where
@@ -400,18 +681,16 @@ pub record Rules (S : Scenario) (rules : List Rule) (x : Option ClassNo) (before
   pub room : before.lines.spare ≤ after.lines.spare + 1
   pub longer : length before.lines.items ≤ length after.lines.items
 
--- the registrations taken out, where the scope owns them
-abbrev pub ended_syncs : Bool → Context → Context
-ended_syncs true context = without_syncs context
-ended_syncs false context = context
-
 -- the transaction that is bound has this number
 abbrev pub HasTransaction : Option Live → ℕ → Type 0
 HasTransaction (Some live) t = live.transaction ≡ t
 HasTransaction None t = ⊥
 
 pub record ResumesIf (older : Option Carried) (before after : Machine) : Type 0 where
-  pub state : (pool : List PoolNote) (store : List StoreNote) → resumed (option_map context_of older) (state_before before pool store) ≡ state_before after pool store
+  pub state : (pool : List PoolNote) (store : List StoreNote) → resumed (option_map context_of older) (state_before before pool store) ≡ elim (is_some older) [
+    | true ↦ tells_resumed (state_before after pool store)
+    | false ↦ state_before after pool store
+  ]
   pub rest : after ≡ record before { context = after.context; lines = after.lines }
   pub room : before.lines.spare ≤ after.lines.spare + 1
 
@@ -446,6 +725,16 @@ Hears S (Note.Store note) before after = (n : ℕ) (pool : List PoolNote) (store
 abbrev pub finds_none : Scenario → List Call → Meaning
 finds_none S (Frame.Body m place catch (Some i) ∷ fs) st = begun S m i None st
 finds_none S _ st = Breaks st
+
+-- something was suspended for the innermost call
+abbrev pub HasSuspended : List Call → Type 0
+HasSuspended (Frame.Body m place catch (Some i) ∷ fs) = IsSome i.scope.suspended
+HasSuspended _ = ⊥
+
+-- the innermost call, where its savepoint was made
+abbrev pub starts_pointed : Scenario → List Call → Meaning
+starts_pointed S (Frame.Body m place catch (Some i) ∷ fs) st = pointed S m st
+starts_pointed S _ st = Breaks st
 
 -- a fresh scope whose transaction just began
 abbrev pub starts_on : Scenario → MethodNo → Interception → ℕ → ℕ → Meaning

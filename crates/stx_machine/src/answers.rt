@@ -1,24 +1,26 @@
 // What a note of the pool or of the store does, once its line is said.
-ghost use Rattle.std.specs.Prelude.{◌≡◌, ◌≤◌, Some, None, IsTrue};
+ghost use Rattle.std.specs.Prelude.{◌≡◌, ◌≤◌, ◌<◌, ◌^◌, ◌-◌, Some, None, IsSome, IsTrue};
 ghost use Rattle.stx_base.specs.declared.history.Note.{Note as NoteData};
 ghost use Rattle.stx_base.specs.Notes.{is_answer, note_line, pool_line as pool_line_of, store_line as store_line_of, pool_answers, store_answers};
-ghost use Rattle.stx_machine.specs.Machine.{Comes, Hears, HearsPool, HearsStore, MovesLines, finds_none, stack, starts, want_of};
+ghost use Rattle.stx_machine.specs.Machine.{Comes, HasSuspended, Hears, HearsPool, HearsStore, IsIntercepting, MovesLines, finds_none, stack, starts, starts_pointed, want_of};
 ghost use Rattle.stx_machine.specs.declared.stage.Stage.{Stage as StageData};
 ghost use Rattle.stx_model.specs.Playable.{IsPlayable};
 ghost use Rattle.stx_conn.specs.Bindings.{new_binding};
-ghost use Rattle.stx_context.specs.Carrying.{bare};
+ghost use Rattle.stx_base.specs.Limits.{most_calls};
+ghost use Rattle.stx_context.specs.Carrying.{bare, context_of};
 ghost use Rattle.stx_scenario.specs.declared.scenario.Scenario.{Scenario as ScenarioData};
-ghost use Rattle.stx_machine.specs.Sound.{CallOpens, IsOpening, IsSound, Unbound, brought, held, held_out, no_tokens};
+ghost use Rattle.stx_machine.specs.Sound.{CallOpens, CallPoints, IsOpening, IsSound, bond_of, brought, held, held_out, no_tokens, one_more, points_of, standing_of};
 
 use crate::calls::attribute_of;
 use crate::completion::Intercepted;
+use crate::interception::Phase;
 use crate::machine::Machine;
 use crate::setup::Setup;
 use crate::stage::{Place, Stage};
 use std::alloc::Global;
 use stx_base::{Line, Note, PoolNote, StoreNote};
 use stx_conn::Holder;
-use stx_scenario::{CANNOT_CREATE_TRANSACTION_EXCEPTION, CANNOT_GET_JDBC_CONNECTION_EXCEPTION};
+use stx_scenario::CANNOT_GET_JDBC_CONNECTION_EXCEPTION;
 use stx_sync::Registry;
 
 /// The one line of a note.
@@ -128,35 +130,83 @@ impl Machine {
             (Stage::Beginning(connection), StoreNote::Begin(tx)) => {
                 self.begin(alloc, setup, connection, tx);
             }
+            (Stage::Pointing(_), StoreNote::Point(_)) => self.start_point(),
+            (Stage::GoingBack(_), StoreNote::BackTo(_)) => {
+                self.clear_mark();
+                self.stage = Stage::Completing;
+            }
+            (Stage::Releasing(_), StoreNote::Release(_)) => self.stage = Stage::Completing,
             (Stage::Committing(_), StoreNote::Commit { .. }) => self.stage = Stage::Completing,
             (Stage::RollingBack(_), StoreNote::Rollback(_)) => self.stage = Stage::Completing,
             _ => unreachable!(),
         }
     }
 
-    // No connection was left: what was suspended is resumed, and the call is refused.
+    // No connection was left: what was suspended is carried again, and the call is to be refused.
     fn give_up_opening(&mut self)
         requires opening { IsOpening self.old no_tokens }
-        requires lines { 2 ≤ self.old.lines.spare }
-        ensures goes { (S : ScenarioData) → CallOpens S Unbound (stack self.old.frames) → Comes S self.old (finds_none S (stack self.old.frames)) self.new }
-        ensures sound { (S : ScenarioData) → IsPlayable S → CallOpens S Unbound (stack self.old.frames) → IsSound S self.new (held self.new.stage) }
+        requires suspended { HasSuspended (stack self.old.frames) }
+        requires lines { 1 ≤ self.old.lines.spare }
+        ensures goes { (S : ScenarioData) → CallOpens S (stack self.old.frames) → Comes S self.old (finds_none S (stack self.old.frames)) self.new }
+        ensures sound { (S : ScenarioData) → CallOpens S (stack self.old.frames) → IsSound S self.new (held self.new.stage) }
+        ensures longer { MovesLines self.old self.new }
+    {
+        let Intercepted {
+            method,
+            place,
+            catch,
+            mut interception,
+        } = self.take_off();
+        match interception.scope.take_held() {
+            Some(suspended) => self.resume(suspended),
+            None => unreachable!(),
+        }
+        let call = Intercepted {
+            method,
+            place,
+            catch,
+            interception,
+        };
+        self.put_back(call, Phase::Opening);
+        self.stage = Stage::Resuming;
+    }
+
+    // The savepoint was made: the nested scope is open, and the body begins.
+    fn start_point(&mut self)
+        requires call { IsIntercepting (stack self.old.frames) }
+        requires few { points_of (bond_of self.old.context.tx) < 2 ^ 32 - 1 }
+        requires bound { IsSome self.old.context.tx }
+        requires lines { 1 ≤ self.old.lines.spare }
+        ensures goes { (S : ScenarioData) → CallPoints S (standing_of self.old.context) (stack self.old.frames) → Comes S self.old (starts_pointed S (stack self.old.frames)) self.new }
+        ensures sound { (S : ScenarioData) → CallPoints S (standing_of self.old.context) (stack self.old.frames) → self.old.top < most_calls → self.old.tokens ≡ no_tokens → IsSound S self.new (held self.new.stage) }
         ensures longer { MovesLines self.old self.new }
     {
         let Intercepted {
             method,
             catch,
-            mut interception,
+            interception,
             place: _,
         } = self.take_off();
-        self.resume_if(interception.scope.take_held());
-        drop(interception);
-        self.refuse(method, catch, CANNOT_CREATE_TRANSACTION_EXCEPTION);
+        self.enter_point();
+        self.start(method, catch, interception.into_scope());
+    }
+
+    // One open savepoint more.
+    fn enter_point(&mut self)
+        requires few { points_of (bond_of self.old.context.tx) < 2 ^ 32 - 1 }
+        ensures context { context_of self.new.context ≡ context_of self.old.context }
+        ensures bond { bond_of self.new.context.tx ≡ one_more (bond_of self.old.context.tx) }
+        ensures rest { self.new ≡ record self.old { context = self.new.context } }
+    {
+        if let Some(holder) = self.context.holder() {
+            holder.enter_point();
+        }
     }
 
     // The transaction began: the scope is open, and the body begins.
     fn begin(&mut self, alloc: Global, setup: &Setup, connection: u32, tx: u32)
         requires opening { IsOpening self.old (record { connection = Some connection; session = Some tx }) }
-        requires call { CallOpens setup.now.scenario Unbound (stack self.old.frames) }
+        requires call { CallOpens setup.now.scenario (stack self.old.frames) }
         requires lines { 1 ≤ self.old.lines.spare }
         ensures goes { Comes setup.now.scenario self.old (starts setup.now.scenario (stack self.old.frames) connection tx) self.new }
         ensures sound { IsSound setup.now.scenario self.new (held self.new.stage) }

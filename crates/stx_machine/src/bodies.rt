@@ -1,20 +1,23 @@
 // The statements of a body that call no method, each up to what it wants.
-ghost use Rattle.std.specs.Prelude.{◌≡◌, ◌≤◌, false, Some};
+ghost use Rattle.std.specs.Prelude.{◌≡◌, ◌≤◌, false, Some, slice_get};
 ghost use Rattle.stx_scenario.specs.declared.scenario.Scenario.{Scenario as ScenarioData};
 ghost use Rattle.stx_base.specs.declared.history.Access.{Access as AccessData};
 ghost use Rattle.stx_machine.specs.declared.stage.Then.{Then as ThenData};
-ghost use Rattle.stx_model.specs.Statements.{value_of as value_in, added, concludes, marks, needed, throws};
+ghost use Rattle.stx_model.specs.Below.{SyncBelow};
+ghost use Rattle.stx_model.specs.Statements.{value_of as value_in, added, concludes, marks, needed, order_of as order_in, register_sync, throws};
 ghost use Rattle.stx_model.specs.Playable.{IsPlayable};
-ghost use Rattle.stx_machine.specs.Sound.{Leaves, no_tokens, held_at};
-ghost use Rattle.stx_machine.specs.Machine.{Comes, IsClass, IsLonger, MovesLines, access_in, accesses, answered, ends_access, falls, row_access, row_statement_of, sum_of};
+ghost use Rattle.stx_machine.specs.Sound.{Leaves, no_tokens, held_at, rank_at};
+ghost use Rattle.stx_machine.specs.Machine.{Comes, HasRoom, IsClass, IsLonger, MovesLines, access_in, accesses, answered, ends_access, falls, row_access, row_statement_of, sum_of};
 
 use crate::machine::Machine;
+use crate::setup::Setup;
 use crate::stage::{Place, Stage, Then};
-use stx_base::{Access, Answer, Line};
+use stx_base::{Access, Answer, Label, Line};
 use stx_scenario::{
     ARITHMETIC_EXCEPTION, CANNOT_ACQUIRE_LOCK_EXCEPTION, ClassNo, ILLEGAL_STATE_EXCEPTION,
-    NO_TRANSACTION_EXCEPTION, RowNo, Stmt,
+    NO_TRANSACTION_EXCEPTION, RowNo, Stmt, SyncNo,
 };
+use stx_sync::Registered;
 
 /// The first access of a statement on a row, and what is done with its answer.
 pub(crate) fn access_of(statement: Stmt) -> Option<(Access, Then)>
@@ -45,6 +48,16 @@ fn summed(value: i64, more: i64) -> Option<i64>
     ensures { result ≡ sum_of value more }
 {
     value.checked_add(more)
+}
+
+// The order value of a synchronisation.
+fn order_of(setup: &Setup, sync: SyncNo) -> i32
+    ensures { result ≡ order_in (slice_get setup.now.scenario.syncs sync.0) }
+{
+    match setup.scenario.syncs.get(sync.0 as usize) {
+        Some(sync) => sync.order,
+        None => 0,
+    }
 }
 
 impl Machine {
@@ -86,6 +99,26 @@ impl Machine {
                 self.stage = Stage::Over(None);
             }
             None => self.throw(NO_TRANSACTION_EXCEPTION),
+        }
+    }
+
+    /// Registers a synchronisation, where synchronisation is active.
+    pub(crate) fn register(&mut self, setup: &Setup, sync: SyncNo)
+        requires lines { 1 ≤ self.old.lines.spare }
+        requires registry { HasRoom self.old.context }
+        ensures goes { Comes setup.now.scenario self.old (register_sync setup.now.scenario sync) self.new }
+        ensures longer { IsLonger self.old self.new }
+        ensures sound { IsPlayable setup.now.scenario → SyncBelow setup.now.scenario (rank_at setup.now.scenario self.old) sync → Leaves setup.now.scenario self.old no_tokens self.new }
+    {
+        let label = Label::Sync(sync);
+        let order = order_of(setup, sync);
+        match self.context.registry() {
+            Some(registry) => {
+                registry.register(Registered { label, order });
+                self.lines.push(Line::Register(label));
+                self.stage = Stage::Over(None);
+            }
+            None => self.throw(ILLEGAL_STATE_EXCEPTION),
         }
     }
 

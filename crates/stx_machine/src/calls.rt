@@ -8,9 +8,9 @@ ghost use Rattle.stx_base.specs.Limits.{most_calls};
 ghost use Rattle.stx_model.specs.Playable.{IsPlayable};
 ghost use Rattle.stx_model.specs.Scopes.{leaves};
 ghost use Rattle.stx_model.specs.Statements.{caught, catches as catches_in};
-ghost use Rattle.stx_frames.specs.declared.frame.Frame.{Frame as FrameData};
-ghost use Rattle.stx_machine.specs.Sound.{IsCall, IsQuiet, IsSound, IsWithin, Leaves, held, no_tokens};
-ghost use Rattle.stx_machine.specs.Machine.{Comes, IsLonger, MovesOn, GoesTo, IsClass, attribute_of as attribute_at, called, entered, frame_after, tops_from};
+ghost use Rattle.stx_context.specs.Carrying.{bare};
+ghost use Rattle.stx_machine.specs.Sound.{IsCall, IsSound, IsWithin, Leaves, held, no_tokens, rank_at};
+ghost use Rattle.stx_machine.specs.Machine.{Comes, IsLonger, MovesOn, GoesTo, IsClass, attribute_of as attribute_at, body_after, called, entered, tops_from};
 
 use crate::machine::Machine;
 use crate::setup::Setup;
@@ -24,7 +24,7 @@ impl Machine {
     pub(crate) fn call(&mut self, setup: &Setup, method: MethodNo, catch: Option<ClassNo>)
         requires lines { 1 ≤ self.old.lines.spare }
         requires frames { 1 ≤ self.old.frames.spare }
-        requires call { IsCall setup.now.scenario method catch }
+        requires call { IsCall setup.now.scenario (rank_at setup.now.scenario self.old) method catch }
         requires within { IsWithin setup.now.scenario self.old no_tokens }
         ensures goes { Comes setup.now.scenario self.old (called setup.now.scenario method catch) self.new }
         ensures sound { IsSound setup.now.scenario self.new (held self.new.stage) }
@@ -51,7 +51,7 @@ impl Machine {
         requires lines { 1 ≤ self.old.lines.spare }
         requires frames { 1 ≤ self.old.frames.spare }
         ensures goes { (S : ScenarioData) → Comes S self.old (entered S (LineData.This method) method catch) self.new }
-        ensures sound { (S : ScenarioData) → IsCall S method catch → Leaves S self.old no_tokens self.new }
+        ensures sound { (S : ScenarioData) → IsCall S (rank_at S self.old) method catch → Leaves S self.old no_tokens self.new }
         ensures longer { IsLonger self.old self.new }
     {
         self.lines.push(Line::This(method));
@@ -61,8 +61,8 @@ impl Machine {
     // Begins the body of a call that opens no scope.
     fn enter(&mut self, method: MethodNo, catch: Option<ClassNo>)
         requires frames { 1 ≤ self.old.frames.spare }
-        ensures goes { (S : ScenarioData) → Comes S self.old (λ st. frame_after S (FrameData.Body method 0 catch None) (Over None st)) self.new }
-        ensures sound { (S : ScenarioData) → IsCall S method catch → Leaves S self.old no_tokens self.new }
+        ensures goes { (S : ScenarioData) → Comes S self.old (λ st. body_after S method 0 catch None (Over None st)) self.new }
+        ensures sound { (S : ScenarioData) → IsCall S (rank_at S self.old) method catch → Leaves S self.old no_tokens self.new }
         ensures lines { self.new.lines ≡ self.old.lines }
     {
         self.frames.push(Frame::Body {
@@ -107,7 +107,7 @@ impl Machine {
         requires frames { 1 ≤ self.old.frames.spare }
         requires playable { IsPlayable setup.now.scenario }
         requires none { self.old.frames.items ≡ [] }
-        requires quiet { IsQuiet self.old.context }
+        requires bare { self.old.context ≡ bare }
         requires tokens { self.old.tokens ≡ no_tokens }
         requires top { top ≤ most_calls }
         ensures goes { GoesTo setup.now.scenario number (tops_from setup.now.scenario number top) self.old self.new }

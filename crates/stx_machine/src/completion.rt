@@ -1,30 +1,35 @@
 // The end of a scope, and the actions that complete it.
-ghost use Rattle.std.specs.Prelude.{◌≡◌, ◌≤◌, ◌<◌, [], ◌∷◌, ◌+◌, Bool, true, false, length, Some, None, IsSome, IsTrue};
+ghost use Rattle.std.specs.Prelude.{◌≡◌, ◌≤◌, ◌<◌, [], ◌∷◌, ◌+◌, ◌*◌, Bool, true, false, length, Some, None, IsSome, IsTrue};
 ghost use Rattle.stx_scenario.specs.declared.scenario.Scenario.{Scenario as ScenarioData};
 ghost use Rattle.stx_base.specs.declared.manager.Action.{Action as ActionData};
 ghost use Rattle.stx_base.specs.Attributes.{attribute as attribute_in};
+ghost use Rattle.stx_base.specs.Limits.{most_calls};
 ghost use Rattle.stx_base.specs.Rules.{winner as winner_of, rolls_back};
 ghost use Rattle.stx_model.specs.Contexts.{with_global_mark};
-ghost use Rattle.stx_model.specs.Ending.{ending as ending_of};
-ghost use Rattle.stx_model.specs.Scopes.{is_set, rolls};
-ghost use Rattle.stx_context.specs.Carrying.{context_of};
-ghost use Rattle.stx_machine.specs.Machine.{Comes, HasTransaction, IsClass, IsIntercepting, IsLonger, IsPushed, Moves, MovesLines, ResumesIf, Rules, acts_of, attribute_of as attribute_at, ended_syncs, ends_of, left, live_of, on_top, put_back, stack};
+ghost use Rattle.stx_model.specs.Ending.{ending as ending_of, has_before_commit as is_before_commit};
 ghost use Rattle.stx_model.specs.Playable.{IsPlayable};
-ghost use Rattle.stx_machine.specs.Sound.{AreQuiet, Ended, IsApart, IsCall, IsCompleting, IsEnding, IsIntercepted, IsQuiet, IsSound, bond_of, held, has_ended, no_tokens, runs};
+ghost use Rattle.stx_model.specs.Scopes.{is_set, rolls};
+ghost use Rattle.stx_context.specs.Carrying.{bare, context_of};
+ghost use Rattle.stx_machine.specs.declared.stage.Stage.{Stage as StageData};
+ghost use Rattle.stx_machine.specs.Machine.{AreTold, Comes, HasTransaction, IsClass, IsIntercepting, IsLonger, IsPushed, Moves, MovesLines, ResumesOn, Rules, acts_of, attribute_of as attribute_at, completes_of, ends_of, left, left_of, live_of, of_top, on_top, put_back, stack};
+ghost use Rattle.stx_machine.specs.Sound.{CallResumes, Ended, IsApart, IsCompleting, IsEnding, IsEndingSo, IsSound, below_rest, below_scope, bond_of, has_ended, has_point, held, no_tokens, one_less, rank_at, runs, standing_of};
 
 use crate::calls::attribute_of;
-use crate::interception::{Interception, Phase};
+use crate::interception::{Course, Interception, Phase};
 use crate::machine::Machine;
 use crate::setup::Setup;
 use crate::stage::{Bound, Stage};
-use stx_base::{Action, Ending, Line};
-use stx_context::Suspended;
+use stx_base::{Action, Ending, Kind, Line, Round};
 use stx_frames::Frame;
 use stx_manager::{completion, ending};
 use stx_rules::{Decision, decide};
-use stx_scenario::{ClassNo, MethodNo, UNEXPECTED_ROLLBACK_EXCEPTION};
+use stx_scenario::{
+    CANNOT_CREATE_TRANSACTION_EXCEPTION, ClassNo, List, MethodNo, UNEXPECTED_ROLLBACK_EXCEPTION,
+};
+use stx_sync::Registered;
 
 /// An intercepted call that was taken off the others.
+#[derive(Drop)]
 pub(crate) struct Intercepted {
     pub(crate) method: MethodNo,
     pub(crate) place: u32,
@@ -42,6 +47,16 @@ fn decision(setup: &Setup, method: MethodNo, thrown: ClassNo) -> Decision
 {
     let rules = &attribute_of(setup, method).rules;
     decide(&setup.classes, &setup.scenario, rules, thrown)
+}
+
+// Whether a scope that ends so has a before_commit round first (`triggerBeforeCommit`).
+fn has_before_commit(kind: Kind, ending: Ending) -> bool
+    ensures { result ≡ is_before_commit kind ending }
+{
+    matches!(
+        (kind, ending),
+        (Kind::Fresh | Kind::Empty, Ending::Commit)
+    )
 }
 
 fn taken_apart(frame: Frame<Interception>) -> Intercepted
@@ -69,7 +84,7 @@ impl Machine {
     pub(crate) fn take_off(&mut self) -> Intercepted
         requires top { IsIntercepting (stack self.old.frames) }
         ensures call { stack self.old.frames ≡ on_top result ∷ stack self.new.frames }
-        ensures room { 1 ≤ self.new.frames.spare }
+        ensures room { self.new.frames.spare ≡ self.old.frames.spare + 1 }
         ensures rest { self.new ≡ record self.old { frames = self.new.frames } }
     {
         match self.frames.pop() {
@@ -78,8 +93,8 @@ impl Machine {
         }
     }
 
-    // Puts an intercepted call back on top of the others, in this phase.
-    fn put_back(&mut self, call: Intercepted, phase: Phase)
+    /// Puts an intercepted call back on top of the others, in this phase.
+    pub(crate) fn put_back(&mut self, call: Intercepted, phase: Phase)
         requires frames { 1 ≤ self.old.frames.spare }
         ensures { IsPushed self.old (put_back call phase) self.new }
     {
@@ -135,9 +150,9 @@ impl Machine {
     /// Ends the scope of a call whose body threw this or nothing; its completion is due.
     pub(crate) fn end(&mut self, setup: &Setup, call: Intercepted, thrown: Option<ClassNo>)
         requires playable { IsPlayable setup.now.scenario }
-        requires ending { IsEnding setup.now.scenario call (bond_of self.old.context.tx) }
+        requires ending { IsEnding setup.now.scenario (rank_at setup.now.scenario self.old) call (standing_of self.old.context) }
         requires class { IsClass setup.now.scenario thrown }
-        requires apart { IsApart setup.now.scenario self.old call.interception.scope.suspended }
+        requires apart { IsApart setup.now.scenario self.old (below_scope call.interception.scope (standing_of self.old.context)) }
         requires lines { 2 ≤ self.old.lines.spare }
         requires frames { 1 ≤ self.old.frames.spare }
         ensures goes { Comes setup.now.scenario self.old (ends_of setup.now.scenario call thrown) self.new }
@@ -154,14 +169,39 @@ impl Machine {
         let rolls_back = self.rule(setup, method, thrown);
         let ending = self.ending(&mut interception, rolls_back);
         self.lines.push(Line::End(ending));
-        let rest = completion(interception.scope.kind(), ending);
+        let kind = interception.scope.kind();
         let call = Intercepted {
             method,
             place,
             catch,
             interception,
         };
-        self.go_on_with(call, rest, thrown);
+        self.go_on_to(call, kind, ending, thrown);
+    }
+
+    // Goes on to the completion of a scope that ends so; before it a scope that is to commit has its before_commit round.
+    fn go_on_to(&mut self, call: Intercepted, kind: Kind, ending: Ending, thrown: Option<ClassNo>)
+        requires kind { call.interception.scope.kind ≡ kind }
+        requires frames { 1 ≤ self.old.frames.spare }
+        ensures goes { (S : ScenarioData) → Comes S self.old (completes_of S call ending thrown) self.new }
+        ensures sound { (S : ScenarioData) → IsEndingSo S (rank_at S self.old) call (standing_of self.old.context) ending thrown → IsApart S self.old (below_scope call.interception.scope (standing_of self.old.context)) → IsSound S self.new no_tokens }
+        ensures held { held self.new.stage ≡ no_tokens }
+        ensures lines { self.new.lines ≡ self.old.lines }
+    {
+        let rest = completion(kind, ending);
+        if has_before_commit(kind, ending) {
+            self.begin_round(
+                call,
+                Course {
+                    round: Round::BeforeCommit,
+                    committed: true,
+                    rest,
+                    thrown,
+                },
+            );
+        } else {
+            self.go_on_with(call, rest, thrown);
+        }
     }
 
     /// Does the next of the actions that are left of a call's completion, or leaves the call after the last.
@@ -172,14 +212,14 @@ impl Machine {
         rest: &'static [Action],
         thrown: Option<ClassNo>,
     )
-        requires completing { IsCompleting setup.now.scenario call (bond_of self.old.context.tx) rest.now thrown }
-        requires apart { IsApart setup.now.scenario self.old call.interception.scope.suspended }
+        requires completing { IsCompleting setup.now.scenario (rank_at setup.now.scenario self.old) call (standing_of self.old.context) rest.now thrown }
+        requires apart { IsApart setup.now.scenario self.old (below_rest call.interception.scope rest.now (standing_of self.old.context)) }
         requires playable { IsPlayable setup.now.scenario }
         requires lines { 2 ≤ self.old.lines.spare }
         requires frames { 1 ≤ self.old.frames.spare }
         ensures goes { Comes setup.now.scenario self.old (acts_of setup.now.scenario call rest.now thrown) self.new }
         ensures sound { IsSound setup.now.scenario self.new (held self.new.stage) }
-        ensures moves { Moves (length rest.now) self.old self.new }
+        ensures moves { Moves (4 * length rest.now) self.old self.new }
     {
         match rest.split_first() {
             None => self.end_call(setup, call, thrown),
@@ -189,8 +229,8 @@ impl Machine {
 
     // Leaves an intercepted call that is complete.
     fn end_call(&mut self, setup: &Setup, call: Intercepted, thrown: Option<ClassNo>)
-        requires completing { IsCompleting setup.now.scenario call (bond_of self.old.context.tx) [] thrown }
-        requires apart { IsApart setup.now.scenario self.old call.interception.scope.suspended }
+        requires completing { IsCompleting setup.now.scenario (rank_at setup.now.scenario self.old) call (standing_of self.old.context) [] thrown }
+        requires apart { IsApart setup.now.scenario self.old (below_rest call.interception.scope [] (standing_of self.old.context)) }
         requires lines { 2 ≤ self.old.lines.spare }
         ensures goes { Comes setup.now.scenario self.old (acts_of setup.now.scenario call [] thrown) self.new }
         ensures sound { IsSound setup.now.scenario self.new (held self.new.stage) }
@@ -216,20 +256,49 @@ impl Machine {
         rest: &'static [Action],
         thrown: Option<ClassNo>,
     )
-        requires completing { IsCompleting setup.now.scenario call (bond_of self.old.context.tx) (action ∷ rest.now) thrown }
-        requires apart { IsApart setup.now.scenario self.old call.interception.scope.suspended }
+        requires completing { IsCompleting setup.now.scenario (rank_at setup.now.scenario self.old) call (standing_of self.old.context) (action ∷ rest.now) thrown }
+        requires apart { IsApart setup.now.scenario self.old (below_rest call.interception.scope (action ∷ rest.now) (standing_of self.old.context)) }
         requires playable { IsPlayable setup.now.scenario }
         requires lines { 1 ≤ self.old.lines.spare }
         requires frames { 1 ≤ self.old.frames.spare }
         ensures goes { Comes setup.now.scenario self.old (acts_of setup.now.scenario call (action ∷ rest.now) thrown) self.new }
         ensures sound { IsSound setup.now.scenario self.new (held self.new.stage) }
-        ensures moves { Moves (length rest.now + 1) self.old self.new }
+        ensures moves { Moves (4 * (length rest.now + 1)) self.old self.new }
     {
         match action {
-            Action::RoundBeforeCompletion | Action::RoundAfterCommit => self.go_on_with(
-                call, rest, thrown,
-            ),
-            Action::RoundAfterCompletion { .. } => self.end_syncs(call, rest, thrown),
+            Action::RoundBeforeCompletion => {
+                self.begin_round(
+                    call,
+                    Course {
+                        round: Round::BeforeCompletion,
+                        committed: false,
+                        rest,
+                        thrown,
+                    },
+                );
+            }
+            Action::RoundAfterCommit => {
+                self.begin_round(
+                    call,
+                    Course {
+                        round: Round::AfterCommit,
+                        committed: true,
+                        rest,
+                        thrown,
+                    },
+                );
+            }
+            Action::RoundAfterCompletion { committed } => {
+                self.begin_round(
+                    call,
+                    Course {
+                        round: Round::AfterCompletion,
+                        committed,
+                        rest,
+                        thrown,
+                    },
+                );
+            }
             Action::CommitStore => {
                 let tx = self.end_session();
                 self.put_back(call, Phase::Completing { rest, thrown });
@@ -251,50 +320,33 @@ impl Machine {
                 self.stage = Stage::GivingBack(bound);
             }
             Action::Resumption => self.take_up(call, rest, thrown),
-            Action::BackToPoint | Action::ReleasePoint => unreachable!(),
+            Action::BackToPoint => {
+                let tx = self.transaction();
+                self.put_back(call, Phase::Completing { rest, thrown });
+                self.stage = Stage::GoingBack(tx);
+            }
+            Action::ReleasePoint => {
+                let tx = self.leave_point();
+                self.put_back(call, Phase::Completing { rest, thrown });
+                self.stage = Stage::Releasing(tx);
+            }
         }
     }
 }
 
 // The actions themselves.
 impl Machine {
-    // Goes on with these actions.
-    fn go_on_with(&mut self, call: Intercepted, rest: &'static [Action], thrown: Option<ClassNo>)
+    /// Goes on with these actions.
+    pub(crate) fn go_on_with(&mut self, call: Intercepted, rest: &'static [Action], thrown: Option<ClassNo>)
         requires frames { 1 ≤ self.old.frames.spare }
         ensures goes { (S : ScenarioData) → Comes S self.old (acts_of S call rest.now thrown) self.new }
-        ensures sound { (S : ScenarioData) → IsCompleting S call (bond_of self.old.context.tx) rest.now thrown → IsApart S self.old call.interception.scope.suspended → IsSound S self.new no_tokens }
+        ensures sound { (S : ScenarioData) → IsCompleting S (rank_at S self.old) call (standing_of self.old.context) rest.now thrown → IsApart S self.old (below_rest call.interception.scope rest.now (standing_of self.old.context)) → IsSound S self.new no_tokens }
         ensures held { held self.new.stage ≡ no_tokens }
         ensures lines { self.new.lines ≡ self.old.lines }
-        ensures left { left self.new ≡ length rest.now }
+        ensures left { left self.new ≡ 4 * length rest.now }
     {
         self.put_back(call, Phase::Completing { rest, thrown });
         self.stage = Stage::Completing;
-    }
-
-    // The round of after_completion, before which the registrations are taken out.
-    fn end_syncs(&mut self, call: Intercepted, rest: &'static [Action], thrown: Option<ClassNo>)
-        requires frames { 1 ≤ self.old.frames.spare }
-        requires quiet { IsQuiet self.old.context }
-        ensures goes { (S : ScenarioData) → (committed : Bool) → Comes S self.old (acts_of S call (ActionData.RoundAfterCompletion committed ∷ rest.now) thrown) self.new }
-        ensures sound { (S : ScenarioData) → IsCompleting S call (bond_of self.old.context.tx) rest.now thrown → IsApart S self.old call.interception.scope.suspended → IsSound S self.new no_tokens }
-        ensures held { held self.new.stage ≡ no_tokens }
-        ensures lines { self.new.lines ≡ self.old.lines }
-        ensures left { left self.new ≡ length rest.now }
-    {
-        self.end_syncs_if(call.interception.scope.owns());
-        self.go_on_with(call, rest, thrown);
-    }
-
-    // Takes the registrations out of the context, where the scope owns them.
-    fn end_syncs_if(&mut self, owns: bool)
-        ensures context { context_of self.new.context ≡ ended_syncs owns (context_of self.old.context) }
-        ensures tx { self.new.context.tx ≡ self.old.context.tx }
-        ensures quiet { IsQuiet self.old.context → IsQuiet self.new.context }
-        ensures rest { self.new ≡ record self.old { context = self.new.context } }
-    {
-        if owns && self.context.active().is_some() {
-            drop(self.context.end_syncs());
-        }
     }
 
     // Marks the transaction rollback-only.
@@ -302,7 +354,7 @@ impl Machine {
         requires lines { 1 ≤ self.old.lines.spare }
         requires frames { 1 ≤ self.old.frames.spare }
         ensures goes { (S : ScenarioData) → Comes S self.old (acts_of S call (ActionData.MarkGlobally ∷ rest.now) thrown) self.new }
-        ensures sound { (S : ScenarioData) → IsCompleting S call (bond_of self.old.context.tx) rest.now thrown → IsApart S self.old call.interception.scope.suspended → IsSound S self.new no_tokens }
+        ensures sound { (S : ScenarioData) → IsCompleting S (rank_at S self.old) call (standing_of self.old.context) rest.now thrown → IsApart S self.old (below_rest call.interception.scope rest.now (standing_of self.old.context)) → IsSound S self.new no_tokens }
         ensures held { held self.new.stage ≡ no_tokens }
         ensures longer { IsLonger self.old self.new }
     {
@@ -313,8 +365,7 @@ impl Machine {
 
     fn mark_holder(&mut self)
         ensures context { context_of self.new.context ≡ with_global_mark true (context_of self.old.context) }
-        ensures bond { bond_of self.new.context.tx ≡ bond_of self.old.context.tx }
-        ensures quiet { IsQuiet self.old.context → IsQuiet self.new.context }
+        ensures standing { standing_of self.new.context ≡ standing_of self.old.context }
         ensures rest { self.new ≡ record self.old { context = self.new.context } }
     {
         if let Some(holder) = self.context.holder() {
@@ -324,11 +375,10 @@ impl Machine {
 
     // Takes the session out of the bound holder, for the store; the connection stays bound.
     fn end_session(&mut self) -> u32
-        requires runs { runs (bond_of self.old.context.tx) ≡ true }
+        requires runs { IsTrue (runs (bond_of self.old.context.tx)) }
         ensures number { HasTransaction (context_of self.old.context).tx result }
         ensures context { context_of self.new.context ≡ context_of self.old.context }
-        ensures bond { bond_of self.new.context.tx ≡ Ended }
-        ensures quiet { IsQuiet self.old.context → IsQuiet self.new.context }
+        ensures bond { bond_of self.new.context.tx ≡ Ended 0 }
         ensures session { self.new.tokens ≡ record self.old.tokens { session = Some result } }
         ensures rest { self.new ≡ record self.old { context = self.new.context; tokens = self.new.tokens } }
     {
@@ -345,7 +395,7 @@ impl Machine {
 
     // Takes the connection out of the context, for the pool.
     fn part(&mut self) -> Bound
-        requires ended { has_ended (bond_of self.old.context.tx) ≡ true }
+        requires ended { IsTrue (has_ended (bond_of self.old.context.tx)) }
         ensures bound { (context_of self.old.context).tx ≡ Some (live_of result) }
         ensures context { self.new.context ≡ record self.old.context { tx = None } }
         ensures connection { self.new.tokens ≡ record self.old.tokens { connection = Some result.connection } }
@@ -363,16 +413,55 @@ impl Machine {
         bound
     }
 
+    /// The transaction that is bound.
+    pub(crate) fn transaction(&self) -> u32
+        requires bound { IsSome self.now.context.tx }
+        ensures { HasTransaction (context_of self.now.context).tx result }
+    {
+        match self.context.bound() {
+            Some(holder) => holder.numbers().1,
+            None => unreachable!(),
+        }
+    }
+
+    // One open savepoint less, in the transaction that is bound.
+    fn leave_point(&mut self) -> u32
+        requires point { IsTrue (has_point (bond_of self.old.context.tx)) }
+        ensures number { HasTransaction (context_of self.old.context).tx result }
+        ensures context { context_of self.new.context ≡ context_of self.old.context }
+        ensures bond { bond_of self.new.context.tx ≡ one_less (bond_of self.old.context.tx) }
+        ensures rest { self.new ≡ record self.old { context = self.new.context } }
+    {
+        match self.context.holder() {
+            Some(holder) => {
+                holder.leave_point();
+                holder.numbers().1
+            }
+            None => unreachable!(),
+        }
+    }
+
+    /// The innermost savepoint was returned to: the transaction's mark goes.
+    pub(crate) fn clear_mark(&mut self)
+        ensures context { context_of self.new.context ≡ with_global_mark false (context_of self.old.context) }
+        ensures standing { standing_of self.new.context ≡ standing_of self.old.context }
+        ensures rest { self.new ≡ record self.old { context = self.new.context } }
+    {
+        if let Some(holder) = self.context.holder() {
+            holder.clear_mark();
+        }
+    }
+
     // Resumes what the scope suspended, if it did.
     fn take_up(&mut self, call: Intercepted, rest: &'static [Action], thrown: Option<ClassNo>)
         requires lines { 1 ≤ self.old.lines.spare }
         requires frames { 1 ≤ self.old.frames.spare }
-        requires quiet { AreQuiet call.interception.scope.suspended }
+        requires bare { IsSome call.interception.scope.suspended → self.old.context ≡ bare }
         requires last { rest.now ≡ [] }
         ensures goes { (S : ScenarioData) → Comes S self.old (acts_of S call (ActionData.Resumption ∷ rest.now) thrown) self.new }
-        ensures sound { (S : ScenarioData) → IsCall S call.method call.catch → IsIntercepted S call.method call.interception → IsClass S thrown → IsApart S self.old call.interception.scope.suspended → IsSound S self.new no_tokens }
+        ensures sound { (S : ScenarioData) → IsCompleting S (rank_at S self.old) call (standing_of self.old.context) (ActionData.Resumption ∷ rest.now) thrown → IsApart S self.old (below_rest call.interception.scope (ActionData.Resumption ∷ rest.now) (standing_of self.old.context)) → IsSound S self.new no_tokens }
         ensures held { held self.new.stage ≡ no_tokens }
-        ensures moves { Moves (length rest.now + 1) self.old self.new }
+        ensures moves { Moves (4 * (length rest.now + 1)) self.old self.new }
     {
         let Intercepted {
             method,
@@ -380,26 +469,47 @@ impl Machine {
             catch,
             mut interception,
         } = call;
-        self.resume_if(interception.scope.take_held());
+        let suspended = interception.scope.take_held();
         let call = Intercepted {
             method,
             place,
             catch,
             interception,
         };
-        self.go_on_with(call, rest, thrown);
+        match suspended {
+            Some(suspended) => {
+                self.resume(suspended);
+                self.put_back(call, Phase::Completing { rest, thrown });
+                self.stage = Stage::Resuming;
+            }
+            None => self.go_on_with(call, rest, thrown),
+        }
     }
 
-    /// Resumes what was suspended, if anything was.
-    pub(crate) fn resume_if(&mut self, suspended: Option<Suspended>)
-        requires lines { 1 ≤ self.old.lines.spare }
-        requires quiet { AreQuiet suspended }
-        ensures state { ResumesIf suspended self.old self.new }
-        ensures apart { (S : ScenarioData) → IsApart S self.old suspended → IsApart S self.new None }
-        ensures longer { MovesLines self.old self.new }
+    /// Tells the registrations that were resumed for the innermost call; then its completion goes on, or it is refused.
+    pub(crate) fn tell_resumed(&mut self, told: List<Registered>)
+        requires call { ResumesOn (stack self.old.frames) }
+        requires told { AreTold told (context_of self.old.context) }
+        requires lines { length told + 2 ≤ self.old.lines.spare }
+        ensures goes { (S : ScenarioData) → Comes S self.old (of_top S (stack self.old.frames) StageData.Resuming) self.new }
+        ensures sound { (S : ScenarioData) → IsPlayable S → CallResumes S (standing_of self.old.context) (stack self.old.frames) → self.old.top < most_calls → self.old.tokens ≡ no_tokens → IsSound S self.new (held self.new.stage) }
+        ensures moves { Moves (left_of StageData.Resuming (stack self.old.frames)) self.old self.new }
     {
-        if let Some(suspended) = suspended {
-            self.resume(suspended);
+        self.say_each(told.as_slice(), true);
+        let call = self.take_off();
+        match call.interception.phase {
+            Phase::Completing { rest, thrown } => self.go_on_with(call, rest, thrown),
+            Phase::Opening => {
+                let Intercepted {
+                    method,
+                    catch,
+                    interception,
+                    place: _,
+                } = call;
+                drop(interception);
+                self.refuse(method, catch, CANNOT_CREATE_TRANSACTION_EXCEPTION);
+            }
+            Phase::Running | Phase::Round(_) => unreachable!(),
         }
     }
 }

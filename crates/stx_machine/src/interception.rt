@@ -1,7 +1,7 @@
 // What an intercepted call has while it is under way.
 ghost use Rattle.std.specs.Prelude.{◌≡◌};
 
-use stx_base::Action;
+use stx_base::{Action, Round};
 use stx_manager::Scope;
 use stx_scenario::ClassNo;
 
@@ -15,7 +15,7 @@ pub struct Interception {
 /// How far an intercepted call has come.
 #[derive(Clone, Copy, Debug)]
 pub enum Phase {
-    /// Its scope waits for a connection and for its transaction.
+    /// Its scope waits for a connection and for its transaction, or for its savepoint.
     Opening,
     /// Its body runs.
     Running,
@@ -24,6 +24,20 @@ pub enum Phase {
         rest: &'static [Action],
         thrown: Option<ClassNo>,
     },
+    /// A round of its callbacks is made.
+    Round(Course),
+}
+
+/// A round of a completion, and what comes after it.
+#[derive(Clone, Copy, Debug)]
+pub struct Course {
+    pub round: Round,
+    /// What the after_completion round tells.
+    pub committed: bool,
+    /// The actions that are left after the round.
+    pub rest: &'static [Action],
+    /// So far the call leaves with this exception, or with none.
+    pub thrown: Option<ClassNo>,
 }
 
 impl Drop for Interception {

@@ -10,12 +10,13 @@ mod completion;
 mod interception;
 mod machine;
 mod openings;
+mod rounds;
 mod setup;
 mod stage;
 mod steps;
 mod tokens;
 
-pub use interception::{Interception, Phase};
+pub use interception::{Course, Interception, Phase};
 pub use machine::Machine;
 pub use setup::Setup;
 pub use stage::{Bound, Place, Stage, Then};

@@ -1,19 +1,28 @@
 // The machine itself.
-ghost use Rattle.std.specs.Prelude.{◌≡◌, ◌≤◌, [], None, OnOk};
-ghost use Rattle.stx_context.specs.Carrying.{bare};
+ghost use Rattle.std.specs.Prelude.{◌≡◌, ◌≤◌, ◌<◌, ◌+◌, ◌^◌, ◌⊎◌, [], None, length, map, IfOk, OnOk, OnErr};
+ghost use Rattle.stx_context.specs.Carrying.{bare, context_of};
+ghost use Rattle.stx_sync.specs.Registries.{registration};
+ghost use Rattle.stx_machine.specs.Machine.{CanPrepare, HasRoom, suspends as suspends_in, tells_all, told_by};
 ghost use Rattle.stx_machine.specs.Sound.{no_tokens};
 
+use crate::calls::attribute_of;
 use crate::interception::Interception;
+use crate::setup::Setup;
 use crate::stage::Stage;
 use crate::tokens::Tokens;
 use std::alloc::Global;
-use stx_base::{ClientLines, Line};
+use stx_base::{ClientLines, Line, Opening};
 use stx_context::Context;
 use stx_frames::Frames;
-use stx_scenario::{NoMemory, Roomy};
+use stx_manager::opening;
+use stx_scenario::{List, NoMemory, Roomy};
+use stx_sync::Registered;
 
-/// The most lines that a small step adds, or a note and the step after it.
+/// The most lines that a small step adds beside those that tell registrations, or a note and the step after it.
 const MOST_LINES: usize = 4;
+
+/// The most registrations that are told in one go.
+const MOST_TOLD: usize = u32::MAX as usize;
 
 /// Where a client stands in its calls, what it carries and holds, and the lines that it has said.
 pub struct Machine {
@@ -80,9 +89,90 @@ impl Machine {
         ensures said { self.new.lines.items ≡ self.old.lines.items }
         ensures calls { self.new.frames.items ≡ self.old.frames.items }
         ensures rest { self.new ≡ record self.old { lines = self.new.lines; frames = self.new.frames } }
+        ensures full { OnErr result ((self.old.lines.spare < 4) ⊎ (self.old.frames.spare ≡ 0)) }
     {
-        self.lines.reserve(MOST_LINES)?;
+        self.reserve_lines(alloc, 0)
+    }
+
+    // Makes room for a small step that tells so many registrations.
+    fn reserve_lines(&mut self, alloc: Global, told: usize) -> Result<(), NoMemory>
+        requires few { told < 2 ^ 32 }
+        ensures lines { OnOk result (told + 4 ≤ self.new.lines.spare) }
+        ensures frames { OnOk result (1 ≤ self.new.frames.spare) }
+        ensures said { self.new.lines.items ≡ self.old.lines.items }
+        ensures calls { self.new.frames.items ≡ self.old.frames.items }
+        ensures rest { self.new ≡ record self.old { lines = self.new.lines; frames = self.new.frames } }
+        ensures full { OnErr result ((self.old.lines.spare < told + 4) ⊎ (self.old.frames.spare ≡ 0)) }
+    {
+        self.lines.reserve(told + MOST_LINES)?;
         self.frames.reserve(alloc)
+    }
+
+    /// Makes room for a small step, and gives the registrations that it tells, by order.
+    pub(crate) fn prepare(&mut self, alloc: Global, setup: &Setup) -> Result<List<Registered>, NoMemory>
+        requires stage { CanPrepare setup.now.scenario self.old.stage }
+        ensures told { IfOk result (λ told. map registration told ≡ told_by setup.now.scenario self.old.stage (context_of self.old.context)) }
+        ensures few { IfOk result (λ told. length told < 2 ^ 32) }
+        ensures lines { IfOk result (λ told. length told + 4 ≤ self.new.lines.spare) }
+        ensures frames { OnOk result (1 ≤ self.new.frames.spare) }
+        ensures registry { OnOk result (HasRoom self.new.context) }
+        ensures said { self.new.lines.items ≡ self.old.lines.items }
+        ensures calls { self.new.frames.items ≡ self.old.frames.items }
+        ensures context { context_of self.new.context ≡ context_of self.old.context }
+        ensures tx { self.new.context.tx ≡ self.old.context.tx }
+        ensures rest { self.new ≡ record self.old { lines = self.new.lines; frames = self.new.frames; context = self.new.context } }
+    {
+        let told = self.told_now(alloc, setup)?;
+        self.reserve_lines(alloc, told.len())?;
+        self.reserve_registration(alloc)?;
+        Ok(told)
+    }
+
+    // The registrations that the next small step tells, by order.
+    fn told_now(&self, alloc: Global, setup: &Setup) -> Result<List<Registered>, NoMemory>
+        requires stage { CanPrepare setup.now.scenario self.now.stage }
+        ensures told { IfOk result (λ told. map registration told ≡ told_by setup.now.scenario self.now.stage (context_of self.now.context)) }
+        ensures few { IfOk result (λ told. length told < 2 ^ 32) }
+    {
+        match self.context.active() {
+            Some(registry) if self.tells(setup) => {
+                let told = registry.snapshot(alloc)?;
+                if told.len() > MOST_TOLD {
+                    return Err(NoMemory::uncountable(told.len(), 0));
+                }
+                Ok(told)
+            }
+            _ => Ok(List::new(alloc)),
+        }
+    }
+
+    // Whether the next small step tells the registrations that are active.
+    fn tells(&self, setup: &Setup) -> bool
+        requires stage { CanPrepare setup.now.scenario self.now.stage }
+        ensures { result ≡ tells_all setup.now.scenario self.now.stage (context_of self.now.context) }
+    {
+        match self.stage {
+            Stage::Rounding | Stage::Resuming => true,
+            Stage::Opening { method, .. } => suspends(opening(
+                &setup.scenario.settings,
+                attribute_of(setup, method),
+                &self.context,
+            )),
+            _ => false,
+        }
+    }
+
+    // Makes room for one registration more, where synchronisation is active.
+    fn reserve_registration(&mut self, alloc: Global) -> Result<(), NoMemory>
+        ensures context { context_of self.new.context ≡ context_of self.old.context }
+        ensures tx { self.new.context.tx ≡ self.old.context.tx }
+        ensures room { OnOk result (HasRoom self.new.context) }
+        ensures rest { self.new ≡ record self.old { context = self.new.context } }
+    {
+        match self.context.registry() {
+            Some(registry) => registry.reserve(alloc),
+            None => Ok(()),
+        }
     }
 
     /// The lines that were said.
@@ -102,4 +192,14 @@ impl Machine {
         context.retire();
         lines.into_list()
     }
+}
+
+// Whether an opening suspends what is carried.
+fn suspends(opening: Opening) -> bool
+    ensures { result ≡ suspends_in opening }
+{
+    matches!(
+        opening,
+        Opening::Fresh { suspends: true, .. } | Opening::Empty { suspends: true, .. }
+    )
 }

@@ -1,17 +1,19 @@
 // The opening of a scope, suspension and resumption.
-ghost use Rattle.std.specs.Prelude.{◌≡◌, ◌≤◌, true, false, Some, None, IsSome};
+ghost use Rattle.std.specs.Prelude.{◌≡◌, ◌≤◌, ◌+◌, ◌++◌, length, map, true, false, Some, None, IsSome};
 ghost use Rattle.stx_scenario.specs.declared.scenario.Scenario.{Scenario as ScenarioData};
 ghost use Rattle.stx_base.specs.Attributes.{attribute as attribute_in};
 ghost use Rattle.stx_base.specs.declared.line.Line.{Line as LineData};
 ghost use Rattle.stx_base.specs.declared.call.Want.{Want as WantData};
 ghost use Rattle.stx_model.specs.Meanings.{ask, finally, on_take, say};
-ghost use Rattle.std.specs.Option.{option_map};
-ghost use Rattle.stx_model.specs.Scopes.{leaves, older_if, suspend};
-ghost use Rattle.stx_context.specs.Carrying.{bare, context_of};
-ghost use Rattle.stx_model.specs.Statements.{caught};
-ghost use Rattle.stx_machine.specs.Machine.{Comes, IsClass, IsLonger, IsPushed, MovesOn, Resumes, Suspends, SuspendsIf, empty_opened, falls, fresh_begun, new_call, opened, started, with_syncs_started};
 ghost use Rattle.stx_model.specs.Playable.{IsPlayable};
-ghost use Rattle.stx_machine.specs.Sound.{AreQuiet, IsApart, IsCall, IsOpen, IsQuiet, IsSound, IsWithin, Leaves, bond_of, held, no_tokens};
+ghost use Rattle.stx_model.specs.Scopes.{leaves, older_if, suspend};
+ghost use Rattle.stx_model.specs.Statements.{caught};
+ghost use Rattle.std.specs.Option.{option_map};
+ghost use Rattle.stx_context.specs.Carrying.{bare, context_of};
+ghost use Rattle.stx_sync.specs.Registries.{registration};
+ghost use Rattle.stx_machine.specs.declared.stage.Stage.{Stage as StageData};
+ghost use Rattle.stx_machine.specs.Machine.{AreTold, Comes, IsClass, IsLonger, IsPushed, MovesOn, Resumes, SaysUnbind, Suspends, SuspendsIf, empty_opened, falls, fresh_begun, held_if, new_call, opened, point_opened, started, told_by, told_line as told_line_of, with_syncs_started};
+ghost use Rattle.stx_machine.specs.Sound.{IsApart, IsCall, IsOpen, IsSound, IsWithin, Leaves, below_scope, held, no_tokens, rank_at, standing_of};
 
 use crate::calls::attribute_of;
 use crate::interception::{Interception, Phase};
@@ -19,12 +21,12 @@ use crate::machine::Machine;
 use crate::setup::Setup;
 use crate::stage::Stage;
 use std::alloc::Global;
-use stx_base::{Kind, Line, Opening};
+use stx_base::{Kind, Label, Line, Opening};
 use stx_context::Suspended;
 use stx_frames::Frame;
 use stx_manager::{Scope, opening};
 use stx_scenario::{ClassNo, MethodNo};
-use stx_sync::Registry;
+use stx_sync::{Registered, Registry};
 
 impl Machine {
     /// Opens the scope of an intercepted call, or refuses it.
@@ -34,11 +36,13 @@ impl Machine {
         setup: &Setup,
         method: MethodNo,
         catch: Option<ClassNo>,
+        told: &[Registered],
     )
         requires playable { IsPlayable setup.now.scenario }
-        requires lines { 2 ≤ self.old.lines.spare }
+        requires told { map registration told.now ≡ told_by setup.now.scenario (StageData.Opening method catch) (context_of self.old.context) }
+        requires lines { length told.now + 2 ≤ self.old.lines.spare }
         requires frames { 1 ≤ self.old.frames.spare }
-        requires call { IsCall setup.now.scenario method catch }
+        requires call { IsCall setup.now.scenario (rank_at setup.now.scenario self.old) method catch }
         requires attribute { IsSome (attribute_in setup.now.scenario method) }
         requires within { IsWithin setup.now.scenario self.old no_tokens }
         ensures goes { Comes setup.now.scenario self.old (λ st. finally (opened setup.now.scenario method st) (caught setup.now.scenario catch)) self.new }
@@ -49,11 +53,11 @@ impl Machine {
         match opening(&setup.scenario.settings, attribute, &self.context) {
             Opening::Refuse(class) => self.refuse(method, catch, class),
             Opening::Join => self.start(method, catch, Scope::new(Kind::Join, false, None)),
-            Opening::Fresh { owns, .. } => self.open_fresh(method, catch, owns),
+            Opening::Fresh { owns, .. } => self.open_fresh(method, catch, owns, told),
             Opening::Empty { suspends, owns } => {
-                self.open_empty(alloc, method, catch, suspends, owns);
+                self.open_empty(alloc, method, catch, suspends, owns, told);
             }
-            Opening::Point => unreachable!(),
+            Opening::Point => self.open_point(method, catch),
         }
     }
 
@@ -62,7 +66,7 @@ impl Machine {
         requires lines { 1 ≤ self.old.lines.spare }
         requires frames { 1 ≤ self.old.frames.spare }
         ensures goes { (S : ScenarioData) → Comes S self.old (λ st. finally (leaves method (Some class) (say (LineData.Throw class) st)) (caught S catch)) self.new }
-        ensures sound { (S : ScenarioData) → IsCall S method catch → IsClass S (Some class) → Leaves S self.old no_tokens self.new }
+        ensures sound { (S : ScenarioData) → IsCall S (rank_at S self.old) method catch → IsClass S (Some class) → Leaves S self.old no_tokens self.new }
         ensures longer { IsLonger self.old self.new }
     {
         self.frames.push(Frame::Body {
@@ -75,18 +79,31 @@ impl Machine {
     }
 
     // Suspends what is carried, and goes to the take of a fresh scope's connection.
-    fn open_fresh(&mut self, method: MethodNo, catch: Option<ClassNo>, owns: bool)
-        requires lines { 1 ≤ self.old.lines.spare }
+    fn open_fresh(&mut self, method: MethodNo, catch: Option<ClassNo>, owns: bool, told: &[Registered])
+        requires told { AreTold told.now (context_of self.old.context) }
+        requires lines { length told.now + 1 ≤ self.old.lines.spare }
         requires frames { 1 ≤ self.old.frames.spare }
-        requires quiet { IsQuiet self.old.context }
         ensures goes { (S : ScenarioData) → Comes S self.old (λ st. finally (ask WantData.Take (on_take (fresh_begun S method owns st.context)) (suspend st)) (caught S catch)) self.new }
-        ensures sound { (S : ScenarioData) → IsCall S method catch → IsSome (attribute_in S method) → Leaves S self.old no_tokens self.new }
+        ensures sound { (S : ScenarioData) → IsCall S (rank_at S self.old) method catch → IsSome (attribute_in S method) → Leaves S self.old no_tokens self.new }
         ensures waits { falls self.new.stage ≡ false }
     {
-        let suspended = self.suspend();
+        let suspended = self.suspend(told);
         let scope = Scope::new(Kind::Fresh, owns, Some(suspended));
         self.push_call(method, catch, scope, Phase::Opening);
         self.stage = Stage::Taking;
+    }
+
+    // Goes to the savepoint of a nested scope.
+    fn open_point(&mut self, method: MethodNo, catch: Option<ClassNo>)
+        requires bound { IsSome self.old.context.tx }
+        requires frames { 1 ≤ self.old.frames.spare }
+        ensures goes { (S : ScenarioData) → Comes S self.old (λ st. finally (point_opened S method st) (caught S catch)) self.new }
+        ensures sound { (S : ScenarioData) → IsCall S (rank_at S self.old) method catch → IsSome (attribute_in S method) → Leaves S self.old no_tokens self.new }
+        ensures waits { falls self.new.stage ≡ false }
+    {
+        let tx = self.transaction();
+        self.push_call(method, catch, Scope::new(Kind::Point, false, None), Phase::Opening);
+        self.stage = Stage::Pointing(tx);
     }
 
     // Opens an empty scope, which may suspend what is carried.
@@ -97,16 +114,17 @@ impl Machine {
         catch: Option<ClassNo>,
         suspends: bool,
         owns: bool,
+        told: &[Registered],
     )
-        requires lines { 2 ≤ self.old.lines.spare }
+        requires told { suspends ≡ true → AreTold told.now (context_of self.old.context) }
+        requires lines { length told.now + 2 ≤ self.old.lines.spare }
         requires frames { 1 ≤ self.old.frames.spare }
-        requires quiet { IsQuiet self.old.context }
         requires free { owns ≡ true → suspends ≡ false → self.old.context.syncs ≡ None }
         ensures goes { (S : ScenarioData) → Comes S self.old (λ st. finally (empty_opened S method suspends owns st) (caught S catch)) self.new }
-        ensures sound { (S : ScenarioData) → IsCall S method catch → IsSome (attribute_in S method) → Leaves S self.old no_tokens self.new }
+        ensures sound { (S : ScenarioData) → IsCall S (rank_at S self.old) method catch → IsSome (attribute_in S method) → Leaves S self.old no_tokens self.new }
         ensures longer { IsLonger self.old self.new }
     {
-        let suspended = self.suspend_if(suspends);
+        let suspended = self.suspend_if(suspends, told);
         self.start_syncs_if(alloc, owns);
         self.start(method, catch, Scope::new(Kind::Empty, owns, suspended));
     }
@@ -116,7 +134,7 @@ impl Machine {
         requires lines { 1 ≤ self.old.lines.spare }
         requires frames { 1 ≤ self.old.frames.spare }
         ensures goes { (S : ScenarioData) → Comes S self.old (λ st. finally (started S method scope st) (caught S catch)) self.new }
-        ensures sound { (S : ScenarioData) → IsCall S method catch → IsOpen S method scope (bond_of self.old.context.tx) → IsApart S self.old scope.suspended → IsSound S self.new no_tokens }
+        ensures sound { (S : ScenarioData) → IsCall S (rank_at S self.old) method catch → IsOpen S method scope (standing_of self.old.context) → IsApart S self.old (below_scope scope (standing_of self.old.context)) → IsSound S self.new no_tokens }
         ensures held { held self.new.stage ≡ no_tokens }
         ensures longer { IsLonger self.old self.new }
     {
@@ -130,17 +148,20 @@ impl Machine {
     }
 
     // Suspends what the client carries, where the scope is to.
-    fn suspend_if(&mut self, suspends: bool) -> Option<Suspended>
-        requires lines { 1 ≤ self.old.lines.spare }
-        requires quiet { IsQuiet self.old.context }
+    fn suspend_if(&mut self, suspends: bool, told: &[Registered]) -> Option<Suspended>
+        requires told { suspends ≡ true → AreTold told.now (context_of self.old.context) }
+        requires lines { length told.now + 1 ≤ self.old.lines.spare }
         ensures older { option_map context_of result ≡ older_if suspends (context_of self.old.context) }
-        ensures suspends { SuspendsIf suspends self.old self.new }
-        ensures apart { (S : ScenarioData) → IsWithin S self.old no_tokens → IsApart S self.new result }
-        ensures quiet { AreQuiet result }
+        ensures suspends { SuspendsIf suspends (length told.now) self.old self.new }
+        ensures held { result ≡ held_if suspends self.old.context }
         ensures free { suspends ≡ true → self.new.context ≡ bare }
         ensures kept { suspends ≡ false → self.new.context ≡ self.old.context }
     {
-        if suspends { Some(self.suspend()) } else { None }
+        if suspends {
+            Some(self.suspend(told))
+        } else {
+            None
+        }
     }
 
     /// Makes synchronisation active, where the scope owns it.
@@ -148,7 +169,6 @@ impl Machine {
         requires free { owns ≡ true → self.old.context.syncs ≡ None }
         ensures started { context_of self.new.context ≡ with_syncs_started owns (context_of self.old.context) }
         ensures tx { self.new.context.tx ≡ self.old.context.tx }
-        ensures quiet { IsQuiet self.old.context → IsQuiet self.new.context }
         ensures rest { self.new ≡ record self.old { context = self.new.context } }
     {
         if owns {
@@ -173,29 +193,60 @@ impl Machine {
         });
     }
 
-    // Suspends what the client carries.
-    fn suspend(&mut self) -> Suspended
-        requires lines { 1 ≤ self.old.lines.spare }
-        requires quiet { IsQuiet self.old.context }
+    // Suspends what the client carries: each registration is told, and then the connection is unbound.
+    fn suspend(&mut self, told: &[Registered]) -> Suspended
+        requires told { AreTold told.now (context_of self.old.context) }
+        requires lines { length told.now + 1 ≤ self.old.lines.spare }
         ensures held { result ≡ self.old.context }
-        ensures suspends { Suspends self.old self.new }
+        ensures suspends { Suspends (length told.now) self.old self.new }
+    {
+        self.say_each(told, false);
+        self.say_unbind();
+        self.context.suspend()
+    }
+
+    // Says that the bound connection is unbound, if one is bound.
+    fn say_unbind(&mut self)
+        requires lines { 1 ≤ self.old.lines.spare }
+        ensures { SaysUnbind self.old self.new }
     {
         if let Some(holder) = self.context.bound() {
             self.lines.push(Line::Unbind(holder.numbers().0));
         }
-        self.context.suspend()
     }
 
-    /// Resumes what was suspended. Nothing is carried any more by then.
+    /// Tells registrations that were resumed, or that are suspended.
+    pub(crate) fn say_each(&mut self, told: &[Registered], resumed: bool)
+        requires lines { length told.now ≤ self.old.lines.spare }
+        ensures said { self.new.lines.items ≡ self.old.lines.items ++ map (λ r. told_line_of resumed r.label) told.now }
+        ensures room { self.old.lines.spare ≤ self.new.lines.spare + length told.now }
+        ensures rest { self.new ≡ record self.old { lines = self.new.lines } }
+    {
+        for registered in told {
+            self.lines.push(told_line(registered.label, resumed));
+        }
+    }
+
+    /// Carries again what was suspended, and binds its connection. Its registrations are still to be told.
     pub(crate) fn resume(&mut self, suspended: Suspended)
+        requires bare { self.old.context ≡ bare }
         requires lines { 1 ≤ self.old.lines.spare }
-        requires quiet { IsQuiet suspended }
         ensures { Resumes self.old suspended self.new }
     {
-        self.context.suspend().retire();
         self.context.resume(suspended);
         if let Some(holder) = self.context.bound() {
             self.lines.push(Line::Bind(holder.numbers().0));
         }
+    }
+}
+
+// The line that tells a registration.
+fn told_line(label: Label, resumed: bool) -> Line
+    ensures { result ≡ told_line_of resumed label }
+{
+    if resumed {
+        Line::Resume(label)
+    } else {
+        Line::Suspend(label)
     }
 }

@@ -33,7 +33,7 @@ pub struct Bound {
     pub mark: bool,
 }
 
-/// What the client does next. The first three are done at once; each other one wants a shared call, or nothing more.
+/// What the client does next. The first five are done at once; each other one wants a shared call, or nothing more.
 #[derive(Clone, Copy, Debug)]
 pub enum Stage {
     /// The newest piece of the innermost call has ended, normally or with an exception of this class.
@@ -45,6 +45,10 @@ pub enum Stage {
     },
     /// The scope of the innermost call completes: its next action is due.
     Completing,
+    /// A round of the innermost call's callbacks begins.
+    Rounding,
+    /// What was suspended for the innermost call is carried again, and its registrations are to be told.
+    Resuming,
     /// A connection, for a statement outside a transaction: its first access, and what is done with the answer.
     Connecting {
         access: Access,
@@ -64,8 +68,14 @@ pub enum Stage {
     Taking,
     /// A transaction on this connection, for the fresh scope of the innermost call.
     Beginning(u32),
+    /// A savepoint in this transaction, for the nested scope of the innermost call.
+    Pointing(u32),
     Committing(u32),
     RollingBack(u32),
+    /// To return to the innermost savepoint.
+    GoingBack(u32),
+    /// To release it.
+    Releasing(u32),
     GivingBack(Bound),
     /// Nothing: all calls are made.
     Done,
@@ -80,7 +90,11 @@ impl Stage {
     {
         matches!(
             self,
-            Stage::Over(_) | Stage::Opening { .. } | Stage::Completing
+            Stage::Over(_)
+                | Stage::Opening { .. }
+                | Stage::Completing
+                | Stage::Rounding
+                | Stage::Resuming
         )
     }
 
@@ -96,13 +110,19 @@ impl Stage {
             },
             Stage::Returning { connection, .. } => Want::Give(connection),
             Stage::Beginning(_) => Want::Begin,
+            Stage::Pointing(tx) => Want::Point(tx),
             Stage::Committing(tx) => Want::Commit(tx),
             Stage::RollingBack(tx) => Want::Rollback(tx),
+            Stage::GoingBack(tx) => Want::BackTo(tx),
+            Stage::Releasing(tx) => Want::Release(tx),
             Stage::GivingBack(bound) => Want::Give(bound.connection),
             Stage::Done => Want::Done,
-            Stage::Over(_) | Stage::Opening { .. } | Stage::Completing | Stage::Failed => {
-                Want::Failed
-            }
+            Stage::Over(_)
+            | Stage::Opening { .. }
+            | Stage::Completing
+            | Stage::Rounding
+            | Stage::Resuming
+            | Stage::Failed => Want::Failed,
         }
     }
 }

@@ -1,23 +1,27 @@
 // Small steps: what is done at once, one piece at a time.
-ghost use Rattle.std.specs.Prelude.{◌≡◌, ◌≤◌, ◌<◌, length, true, false, OnOk, OnErr};
-ghost use Rattle.stx_base.specs.Weight.{body_of};
+ghost use Rattle.std.specs.Prelude.{◌≡◌, ◌≤◌, ◌<◌, ◌+◌, ◌^◌, ◌∷◌, length, map, true, false, OnOk, OnErr};
+ghost use Rattle.stx_base.specs.Weight.{body_of, rank};
 ghost use Rattle.stx_model.specs.Meanings.{Over};
-ghost use Rattle.stx_model.specs.Script.{statement as statement_in};
-ghost use Rattle.stx_frames.specs.declared.frame.Frame.{Frame as FrameData};
-ghost use Rattle.stx_machine.specs.declared.stage.Stage.{Stage as StageData};
-ghost use Rattle.stx_machine.specs.Machine.{Comes, ComesTo, Goes, IsClass, IsLonger, Moves, MovesLines, MovesOn, falls, frame_after, inside, left, left_of, of_top, stack};
 ghost use Rattle.stx_model.specs.Playable.{IsPlayable};
-ghost use Rattle.stx_machine.specs.Sound.{IsApart, IsCall, IsEndingCall, IsNext, IsSound, IsWithin, MayMake, ScopeRuns, bond_of, held, held_back, no_tokens};
+ghost use Rattle.stx_model.specs.Script.{statement as statement_in};
+ghost use Rattle.stx_context.specs.Carrying.{context_of};
+ghost use Rattle.stx_sync.specs.Registries.{registration};
+ghost use Rattle.stx_machine.specs.declared.interception.Phase.{Phase as PhaseData};
+ghost use Rattle.stx_machine.specs.declared.stage.Stage.{Stage as StageData};
+ghost use Rattle.stx_machine.specs.Machine.{Comes, ComesTo, Goes, HasRoom, IsClass, IsLonger, IsRounding, Moves, MovesLines, MovesOn, body_after, falls, inside, left, left_of, of_top, put_back, stack, told_by};
+ghost use Rattle.stx_machine.specs.Sound.{IsApart, IsCall, IsEndingCall, IsNext, IsSound, IsWithin, MayMake, ScopeRuns, below_call, held, no_tokens, rank_at, standing_of};
 
 use crate::bodies::access_of;
 use crate::completion::Intercepted;
 use crate::interception::{Interception, Phase};
 use crate::machine::Machine;
+use crate::rounds::Telling;
 use crate::setup::Setup;
 use crate::stage::Stage;
 use std::alloc::Global;
 use stx_frames::Frame;
-use stx_scenario::{ClassNo, MethodNo, NoMemory, Stmt};
+use stx_scenario::{ClassNo, List, MethodNo, NoMemory, Stmt};
+use stx_sync::Registered;
 
 impl Machine {
     /// Does all that is done at once, up to the next shared call or to the end. For want of memory it stops before a step.
@@ -48,28 +52,35 @@ impl Machine {
     {
         let said = self.lines.as_slice().len();
         while self.stage.falls() && self.lines.as_slice().len() == said {
-            self.reserve(alloc)?;
-            self.step(alloc, setup, number);
+            let told = self.prepare(alloc, setup)?;
+            self.step(alloc, setup, number, told);
         }
         Ok(())
     }
 
-    // One small step.
-    fn step(&mut self, alloc: Global, setup: &Setup, number: u32)
+    // One small step, which may tell these registrations.
+    fn step(&mut self, alloc: Global, setup: &Setup, number: u32, told: List<Registered>)
         requires playable { IsPlayable setup.now.scenario }
         requires client { number < length setup.now.scenario.clients }
         requires sound { IsSound setup.now.scenario self.old (held self.old.stage) }
         requires falls { falls self.old.stage ≡ true }
-        requires lines { 4 ≤ self.old.lines.spare }
+        requires told { map registration told ≡ told_by setup.now.scenario self.old.stage (context_of self.old.context) }
+        requires few { length told < 2 ^ 32 }
+        requires lines { length told + 4 ≤ self.old.lines.spare }
         requires frames { 1 ≤ self.old.frames.spare }
+        requires registry { HasRoom self.old.context }
         ensures goes { Goes setup.now.scenario number self.old self.new }
         ensures sound { IsSound setup.now.scenario self.new (held self.new.stage) }
         ensures moves { Moves (left self.old) self.old self.new }
     {
         match self.stage {
-            Stage::Opening { method, catch } => self.open(alloc, setup, method, catch),
+            Stage::Opening { method, catch } => {
+                self.open(alloc, setup, method, catch, told.as_slice());
+            }
             Stage::Over(thrown) => self.go_on(setup, number, thrown),
             Stage::Completing => self.go_on_completing(setup),
+            Stage::Rounding => self.tell(told),
+            Stage::Resuming => self.tell_resumed(told),
             _ => unreachable!(),
         }
     }
@@ -86,7 +97,7 @@ impl Machine {
         let call = self.take_off();
         match call.interception.phase {
             Phase::Completing { rest, thrown } => self.complete(setup, call, rest, thrown),
-            Phase::Opening | Phase::Running => unreachable!(),
+            Phase::Opening | Phase::Running | Phase::Round(_) => unreachable!(),
         }
     }
 
@@ -96,11 +107,12 @@ impl Machine {
         requires client { number < length setup.now.scenario.clients }
         requires class { IsClass setup.now.scenario thrown }
         requires within { IsWithin setup.now.scenario self.old no_tokens }
-        requires lines { 2 ≤ self.old.lines.spare }
+        requires lines { 3 ≤ self.old.lines.spare }
         requires frames { 1 ≤ self.old.frames.spare }
+        requires registry { HasRoom self.old.context }
         ensures goes { ComesTo setup.now.scenario number self.old (Over thrown) self.new }
         ensures sound { IsSound setup.now.scenario self.new (held self.new.stage) }
-        ensures moves { MovesOn self.old self.new }
+        ensures moves { Moves (left_of (StageData.Over thrown) (stack self.old.frames)) self.old self.new }
     {
         match self.frames.pop() {
             None => self.call_at(setup, number, self.top + 1),
@@ -112,7 +124,42 @@ impl Machine {
                     scope,
                 },
             ) => self.go_on_body(setup, method, place, catch, scope, thrown),
-            _ => unreachable!(),
+            Some(
+                Frame::Round {
+                    todo,
+                    at,
+                    place,
+                    round: _,
+                    thrown: _,
+                },
+            ) => {
+                let telling = self.take_round(todo, at, place);
+                self.go_on_round(setup, telling, thrown);
+            }
+            Some(Frame::Now { .. }) => unreachable!(),
+        }
+    }
+
+    // The round of these registrations, with the innermost call, of which it is part.
+    fn take_round(&mut self, todo: List<Registered>, at: u32, place: u32) -> Telling
+        requires call { IsRounding (stack self.old.frames) }
+        ensures call { stack self.old.frames ≡ put_back result.call (PhaseData.Round result.course) ∷ stack self.new.frames }
+        ensures todo { result.todo ≡ todo }
+        ensures at { result.at ≡ at }
+        ensures place { result.place ≡ place }
+        ensures room { self.new.frames.spare ≡ self.old.frames.spare + 1 }
+        ensures rest { self.new ≡ record self.old { frames = self.new.frames } }
+    {
+        let call = self.take_off();
+        match call.interception.phase {
+            Phase::Round(course) => Telling {
+                call,
+                course,
+                todo,
+                at,
+                place,
+            },
+            Phase::Opening | Phase::Running | Phase::Completing { .. } => unreachable!(),
         }
     }
 
@@ -127,13 +174,14 @@ impl Machine {
         thrown: Option<ClassNo>,
     )
         requires playable { IsPlayable setup.now.scenario }
-        requires call { IsCall setup.now.scenario method catch }
-        requires scope { ScopeRuns setup.now.scenario (bond_of self.old.context.tx) method scope }
-        requires apart { IsApart setup.now.scenario self.old (held_back scope) }
+        requires call { IsCall setup.now.scenario (rank_at setup.now.scenario self.old) method catch }
+        requires scope { ScopeRuns setup.now.scenario (standing_of self.old.context) method scope }
+        requires apart { IsApart setup.now.scenario self.old (below_call scope (standing_of self.old.context)) }
         requires class { IsClass setup.now.scenario thrown }
         requires lines { 2 ≤ self.old.lines.spare }
         requires frames { 2 ≤ self.old.frames.spare }
-        ensures goes { Comes setup.now.scenario self.old (λ st. frame_after setup.now.scenario (FrameData.Body method place catch scope) (Over thrown st)) self.new }
+        requires registry { HasRoom self.old.context }
+        ensures goes { Comes setup.now.scenario self.old (λ st. body_after setup.now.scenario method place catch scope (Over thrown st)) self.new }
         ensures sound { IsSound setup.now.scenario self.new (held self.new.stage) }
         ensures moves { MovesOn self.old self.new }
     {
@@ -167,8 +215,10 @@ impl Machine {
         requires playable { IsPlayable setup.now.scenario }
         requires may { MayMake setup.now.scenario caller statement }
         requires within { IsWithin setup.now.scenario self.old no_tokens }
+        requires rank { rank_at setup.now.scenario self.old ≡ rank setup.now.scenario caller }
         requires lines { 1 ≤ self.old.lines.spare }
         requires frames { 1 ≤ self.old.frames.spare }
+        requires registry { HasRoom self.old.context }
         ensures goes { Comes setup.now.scenario self.old (statement_in setup.now.scenario (inside setup.now.scenario caller) statement) self.new }
         ensures sound { IsSound setup.now.scenario self.new (held self.new.stage) }
         ensures moves { MovesOn self.old self.new }
@@ -178,6 +228,7 @@ impl Machine {
             Stmt::This { method, catch } => self.call_directly(method, catch),
             Stmt::Throw(class) => self.throw(class),
             Stmt::Mark => self.mark(),
+            Stmt::Register(sync) => self.register(setup, sync),
             _ => match access_of(statement) {
                 Some((access, then)) => self.want_access(access, then),
                 None => unreachable!(),

@@ -14,7 +14,7 @@ use Rattle.stx_model.specs.Script.{calls_of, script}
 use Rattle.stx_model.proofs.Steady.{GoesOn, Waits, IsLater, more, NextNote, NoNote, OneNote, next_note, asked, unasked}
 use Rattle.stx_model.proofs.NotesLaw.{longer_script, script_steady, reads_in_order}
 use Rattle.stx_model.specs.Laws.{BreaksAtWrongNotes}
-use Rattle.stx_model.proofs.Callable.{Callable}
+use Rattle.stx_model.specs.Below.{Callable}
 use Rattle.stx_model.proofs.CallableLaw.{callable_if_valid}
 use Rattle.stx_model.proofs.Breaks.{EndsWell}
 use Rattle.stx_model.proofs.BreaksPieces.{tops_end}

@@ -38,7 +38,8 @@ use Rattle.stx_model.specs.Statements.{throws, concludes, catches, caught, RowAc
 use Rattle.stx_model.specs.Rounds.{Calls, Way, Proxied, Direct, sync_body, callback_line, swallows, round_of, callback_statement, callback, listens, listens_in, called_back, told, stopping_round, swallowing_round, last_round}
 use Rattle.stx_model.specs.Scopes.{say_each, say_bind, suspend, resume, resumed, suspended, older_if, Scope, leaves, live_in, later_or, started_syncs, fresh_context, rolls, ruled, is_set, acts, completes, ends, in_scope, within, begins, empty, opens, intercepted}
 use Rattle.stx_model.specs.Script.{deals, statement, body, unscoped, proxied, invoked, calls_below, invoke, tops}
-use Rattle.stx_model.proofs.Callable.{listener_body, CallbackBelow, CallbacksBelow, LabelBelow, RegisteredBelow, DeedBelow, StatementBelow, StatementsBelow, MethodsBelow, Callable, label_raise, registered_raise, all_append, by_order_all}
+use Rattle.stx_model.specs.Below.{listener_body, CallbackBelow, CallbacksBelow, LabelBelow, RegisteredBelow, DeedBelow, StatementBelow, StatementsBelow, MethodsBelow, Callable}
+use Rattle.stx_model.proofs.Callable.{label_raise, registered_raise, all_append, by_order_all}
 use Rattle.stx_model.proofs.SteadyPieces.{fresh_scope, in_fresh}
 use Rattle.stx_model.proofs.Breaks.{EndsWell, Brings, finally_ends, and_then_ends, either_ends, live_in_ends, ask_brings, on_take_brings, on_begin_brings, on_access_brings, on_auto_brings}
 

@@ -22,7 +22,8 @@ use Rattle.stx_base.proofs.WeightLaws.{acyclic_from, at_get, has_append, rank_is
 use Rattle.stx_model.specs.Listeners.{Numbered, RunNow, Skip, deed, deeds, dealt_with, listening}
 use Rattle.stx_model.specs.Rounds.{sync_body}
 use Rattle.stx_model.specs.Script.{calls_of}
-use Rattle.stx_model.proofs.Callable.{listener_body, CallbackBelow, CallbacksBelow, ListenerBelow, DeedBelow, StatementBelow, StatementsBelow, MethodsBelow, Callable, by_order_all}
+use Rattle.stx_model.specs.Below.{listener_body, CallbackBelow, CallbacksBelow, ListenerBelow, DeedBelow, StatementBelow, StatementsBelow, MethodsBelow, Callable}
+use Rattle.stx_model.proofs.Callable.{by_order_all}
 
 -- ---- what callbacks may hold
 

@@ -45,7 +45,7 @@ use Rattle.stx_model.proofs.BreaksPieces.{Happens, happens}
 use Rattle.stx_model.proofs.Ledgers.{tallied, tally, nothing_open, one_less, paid, Bound, bound, Ledger, nothing_outstanding, counted, carried, opened, is_end}
 use Rattle.stx_model.proofs.Moves.{World, noted, Sound, IsAlive, At, AtIn, Ends, Keeps, finally_ends, and_then_ends, either_ends, live_in_ends, said, moved, in_context, same_points, ask_take, ask_give, ask_begin, ask_point, ask_back, ask_release, ask_commit, ask_rollback}
 use Rattle.stx_model.proofs.MovesPieces.{carried_ordered, none_active, plain, throws_go, caught_go, alive_at, row_go, marks_go, registers_go, inside, apart, suspends, resumes, left}
-use Rattle.stx_model.proofs.Callable.{listener_body}
+use Rattle.stx_model.specs.Below.{listener_body}
 use Rattle.stx_model.proofs.Leaving.{empty_is_bare}
 
 -- ---- what callbacks may hold where their transaction has ended

@@ -87,23 +87,23 @@ connected_steady s (Some c) =
     on_row_steady (on_connection c) (λ x. ask_steady (Want.Give c) (λ _. concludes x) (λ n. concludes_steady x)) s
 connected_steady s None = throws_steady CANNOT_GET_JDBC_CONNECTION_EXCEPTION
 
-row_steady : (live : Option Live) (s : Stmt) → IsSteady (row_statement live s)
+pub row_steady : (live : Option Live) (s : Stmt) → IsSteady (row_statement live s)
 row_steady (Some live) s = on_row_steady (in_transaction live.transaction) concludes_steady s
 row_steady None s = ask_steady Want.Take (on_take (connected s)) (on_take_steady (connected s) (connected_steady s))
 
 -- ---- marks and registrations
 
-marks_steady : (local : Option Bool) → IsSteady (marks local)
+pub marks_steady : (local : Option Bool) → IsSteady (marks local)
 marks_steady (Some local) st = say_steady Line.Mark (Over None) (over_steady None) (with_local (Some true) st)
 marks_steady None st = throws_steady NO_TRANSACTION_EXCEPTION st
 
-registers_steady : (r : Registration) (syncs : Option (List Registration)) → IsSteady (registers r syncs)
+pub registers_steady : (r : Registration) (syncs : Option (List Registration)) → IsSteady (registers r syncs)
 registers_steady r (Some list) st = say_steady (Line.Register r.label) (Over None) (over_steady None) (with_context (with_registration r list st.context) st)
 registers_steady r None st = throws_steady ILLEGAL_STATE_EXCEPTION st
 
 -- ---- suspension and resumption
 
-say_each_change : (line : Label → Line) (labels : List Label) → IsChange (say_each line labels)
+pub say_each_change : (line : Label → Line) (labels : List Label) → IsChange (say_each line labels)
 say_each_change line [] = record { later = no_later; same = λ st p s. refl }
 say_each_change line (l ∷ ls) =
     let rest = say_each_change line ls in
@@ -116,11 +116,11 @@ unbind_change : (tx : Option Live) → IsChange (say_unbind tx)
 unbind_change (Some live) = record { later = said_later (Line.Unbind live.connection); same = λ st p s. refl }
 unbind_change None = record { later = no_later; same = λ st p s. refl }
 
-bind_change : (tx : Option Live) → IsChange (say_bind tx)
+pub bind_change : (tx : Option Live) → IsChange (say_bind tx)
 bind_change (Some live) = record { later = said_later (Line.Bind live.connection); same = λ st p s. refl }
 bind_change None = record { later = no_later; same = λ st p s. refl }
 
-suspend_change : IsChange suspend
+pub suspend_change : IsChange suspend
 suspend_change = record {
   later = λ st.
       let told = say_each Line.Suspend (ordered_labels st.context.syncs) st in
@@ -131,7 +131,7 @@ suspend_change = record {
       ∙ ap (with_context bare) ((unbind_change st.context.tx).same (say_each Line.Suspend (ordered_labels st.context.syncs) st) p s);
 }
 
-resume_change : (older : Context) → IsChange (resume older)
+pub resume_change : (older : Context) → IsChange (resume older)
 resume_change older = record {
   later = λ st.
       let bound = say_bind older.tx (with_context older st) in
@@ -142,15 +142,15 @@ resume_change older = record {
       ∙ (say_each_change Line.Resume (ordered_labels older.syncs)).same (say_bind older.tx (with_context older st)) p s;
 }
 
-resumed_change : (older : Option Context) → IsChange (resumed older)
+pub resumed_change : (older : Option Context) → IsChange (resumed older)
 resumed_change (Some older) = resume_change older
 resumed_change None = record { later = no_later; same = λ st p s. refl }
 
-suspended_change : (suspends : Bool) → IsChange (suspended suspends)
+pub suspended_change : (suspends : Bool) → IsChange (suspended suspends)
 suspended_change true = suspend_change
 suspended_change false = record { later = no_later; same = λ st p s. refl }
 
-swallows_change : (x : Option ClassNo) → IsChange (swallows x)
+pub swallows_change : (x : Option ClassNo) → IsChange (swallows x)
 swallows_change (Some x) = record { later = said_later (Line.Swallow x); same = λ st p s. refl }
 swallows_change None = record { later = no_later; same = λ st p s. refl }
 
@@ -184,7 +184,7 @@ in_fresh S calls m a run owns older c t begun =
 module _ (S : Scenario) (calls : Calls) (calls_steady : AreSteady calls) where
   -- ---- callbacks and rounds
 
-  callback_statement_steady : (s : Stmt) → IsSteady (callback_statement S calls s)
+  pub callback_statement_steady : (s : Stmt) → IsSteady (callback_statement S calls s)
   unfolding callback_statement
   callback_statement_steady (Stmt.Read k) st = row_steady st.context.tx (Stmt.Read k) st
   callback_statement_steady (Stmt.Write k v) st = row_steady st.context.tx (Stmt.Write k v) st
@@ -199,13 +199,13 @@ module _ (S : Scenario) (calls : Calls) (calls_steady : AreSteady calls) where
   callback_statement_steady (Stmt.Register r) st = breaks_steady st
   callback_statement_steady (Stmt.Publish e) st = breaks_steady st
 
-  callback_steady : (body : List Stmt) → IsSteady (callback S calls body)
+  pub callback_steady : (body : List Stmt) → IsSteady (callback S calls body)
   unfolding callback
   callback_steady [] st = over_steady None st
   callback_steady (s ∷ later) st =
       and_then_steady (callback_statement S calls s) (callback S calls later) (callback_statement_steady s) (callback_steady later) st
 
-  listens_steady : (l : ListenerNo) (listener : Option Listener) → IsSteady (listens S calls l listener)
+  pub listens_steady : (l : ListenerNo) (listener : Option Listener) → IsSteady (listens S calls l listener)
   listens_steady l (Some listener) = say_steady (Line.Listen l) (callback S calls listener.body) (callback_steady listener.body)
   listens_steady l None = over_steady None
 
@@ -216,22 +216,22 @@ module _ (S : Scenario) (calls : Calls) (calls_steady : AreSteady calls) where
       (over_steady None)
   listens_in_steady round committed l None = over_steady None
 
-  called_back_steady : (round : Round) (committed : Bool) (label : Label) → IsSteady (called_back S calls round committed label)
+  pub called_back_steady : (round : Round) (committed : Bool) (label : Label) → IsSteady (called_back S calls round committed label)
   called_back_steady round committed (Label.Sync s) = callback_steady (sync_body round (slice_get S.syncs s.0))
   called_back_steady round committed (Label.Listener l) = listens_in_steady round committed l (slice_get S.listeners l.0)
 
-  told_steady : (round : Round) (committed : Bool) (r : Registration) → IsSteady (told S calls round committed r)
+  pub told_steady : (round : Round) (committed : Bool) (r : Registration) → IsSteady (told S calls round committed r)
   unfolding told
   told_steady round committed r =
       say_steady (callback_line round committed r.label) (called_back S calls round committed r.label) (called_back_steady round committed r.label)
 
-  stopping_steady : (round : Round) (rs : List Registration) → IsSteady (stopping_round S calls round rs)
+  pub stopping_steady : (round : Round) (rs : List Registration) → IsSteady (stopping_round S calls round rs)
   unfolding stopping_round
   stopping_steady round [] st = over_steady None st
   stopping_steady round (r ∷ later) st =
       and_then_steady (told S calls round true r) (stopping_round S calls round later) (told_steady round true r) (stopping_steady round later) st
 
-  swallowing_steady : (round : Round) (committed : Bool) (rs : List Registration) → IsSteady (swallowing_round S calls round committed rs)
+  pub swallowing_steady : (round : Round) (committed : Bool) (rs : List Registration) → IsSteady (swallowing_round S calls round committed rs)
   unfolding swallowing_round
   swallowing_steady round committed [] st = over_steady None st
   swallowing_steady round committed (r ∷ later) st =
@@ -311,14 +311,14 @@ module _ (S : Scenario) (calls : Calls) (calls_steady : AreSteady calls) where
 
   -- ---- intercepted calls
 
-  in_scope_steady : (scope : Scope) (a : TxAttr) (run : Meaning) → IsSteady run → IsSteady (in_scope S calls scope a run)
+  pub in_scope_steady : (scope : Scope) (a : TxAttr) (run : Meaning) → IsSteady run → IsSteady (in_scope S calls scope a run)
   unfolding in_scope
   in_scope_steady scope a run steady =
       let line = Line.Opened scope.kind scope.owns in
       finally_steady (λ st. run (with_local (Some false) (say line st))) (ends S calls scope a)
       (say_steady line (λ st. run (with_local (Some false) st)) (λ st. steady (with_local (Some false) st))) (ends_steady scope a)
 
-  within_steady : (m : MethodNo) (kind : Kind) (a : TxAttr) (run : Meaning) → IsSteady run → IsSteady (within S calls m kind a run)
+  pub within_steady : (m : MethodNo) (kind : Kind) (a : TxAttr) (run : Meaning) → IsSteady run → IsSteady (within S calls m kind a run)
   within_steady m kind a run steady st =
       in_scope_steady (record { method = m; kind = kind; owns = false; older = None; outer = st.local }) a run steady st
 
@@ -364,7 +364,7 @@ module _ (S : Scenario) (calls : Calls) (calls_steady : AreSteady calls) where
 
   -- ---- bodies
 
-  deals_steady : (ds : List Deed) → IsSteady (deals S calls ds)
+  pub deals_steady : (ds : List Deed) → IsSteady (deals S calls ds)
   unfolding deals
   deals_steady [] st = over_steady None st
   deals_steady (Register l ∷ later) st =

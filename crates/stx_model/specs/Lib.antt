@@ -8,6 +8,7 @@ pub mod Statements
 pub mod Rounds
 pub mod Scopes
 pub mod Script
+pub mod Below
 pub mod Built
 pub mod Playable
 pub mod Played

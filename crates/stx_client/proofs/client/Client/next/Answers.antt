@@ -12,7 +12,7 @@ unreachable-requires c =
     let n = c.in_default in
     wants_one i.machine.stage c.want.result c.want.ensures (k.waiting ok).waits ok
     (λ done. c.requires.more (want_is i.is_out k c.args.self.now c.self.view_is c.requires.failed Want.Done (sym c.want.ensures ∙ done)))
-    n.not-Take n.not-Give n.not-Begin n.not-Access n.not-Auto n.not-Commit n.not-Rollback
+    n.not-Take n.not-Give n.not-Begin n.not-Access n.not-Auto n.not-Point n.not-BackTo n.not-Release n.not-Commit n.not-Rollback
 
 pub returns-in-Take-clause-want : goal.returns-in-Take-clause-want
 returns-in-Take-clause-want c = want_is c.self.inside.is_out c.self.invariant.0 c.args.self.now c.self.view_is c.requires.failed Want.Take (sym c.want.ensures ∙ c.in-Take.is)
@@ -34,3 +34,12 @@ returns-in-Commit-clause-want c = want_is c.self.inside.is_out c.self.invariant.
 
 pub returns-in-Rollback-clause-want : goal.returns-in-Rollback-clause-want
 returns-in-Rollback-clause-want c = want_is c.self.inside.is_out c.self.invariant.0 c.args.self.now c.self.view_is c.requires.failed (Want.Rollback c.spend_session-in-Rollback.result) (sym c.want.ensures ∙ (c.in-Rollback.is ∙ ap Want.Rollback (sym c.spend_session-in-Rollback.ensures.session)))
+
+pub returns-in-Point-clause-want : goal.returns-in-Point-clause-want
+returns-in-Point-clause-want c = want_is c.self.inside.is_out c.self.invariant.0 c.args.self.now c.self.view_is c.requires.failed (Want.Point c.in-Point.tx) (sym c.want.ensures ∙ c.in-Point.is)
+
+pub returns-in-BackTo-clause-want : goal.returns-in-BackTo-clause-want
+returns-in-BackTo-clause-want c = want_is c.self.inside.is_out c.self.invariant.0 c.args.self.now c.self.view_is c.requires.failed (Want.BackTo c.in-BackTo.tx) (sym c.want.ensures ∙ c.in-BackTo.is)
+
+pub returns-in-Release-clause-want : goal.returns-in-Release-clause-want
+returns-in-Release-clause-want c = want_is c.self.inside.is_out c.self.invariant.0 c.args.self.now c.self.view_is c.requires.failed (Want.Release c.in-Release.tx) (sym c.want.ensures ∙ c.in-Release.is)

@@ -1,23 +1,28 @@
 -- Each action of a completion.
-use Rattle.std.proofs.Common.{◌≡◌, ◌∙◌, ◌∷◌, ℕ, inl, inr, true, List, Option, Some, None, sym, ap, subst, arith}
+use Rattle.std.proofs.Common.{◌≡◌, ◌∙◌, ◌∷◌, ℕ, ◌<◌, false, true, List, Option, Some, None, refl, sym, ap, subst, arith}
+use Rattle.std.specs.Prelude.{◌&&◌, ◌||◌, not}
+use Rattle.std.proofs.lemmas.Bool.{and_parts}
 use Rattle.std.specs.Option.{is_some, option_map}
 use Rattle.stx_scenario.specs.declared.numbers.ClassNo.{ClassNo}
 use Rattle.stx_scenario.specs.declared.classes.TheConstants.{UNEXPECTED_ROLLBACK_EXCEPTION}
+use Rattle.stx_base.specs.Limits.{most_calls}
 use Rattle.stx_base.specs.declared.call.Want.{Want}
 use Rattle.stx_base.specs.declared.line.Line.{Line}
 use Rattle.stx_base.specs.declared.manager.Action.{Action}
-use Rattle.stx_model.specs.Contexts.{Context}
-use Rattle.stx_model.specs.Meanings.{State, Result, Meaning, ask, finally}
+use Rattle.stx_model.specs.Contexts.{Context, with_global_mark}
+use Rattle.stx_model.specs.Meanings.{State, Result, Meaning, ask, finally, with_context}
 use Rattle.stx_model.specs.Scopes.{acts, live_in}
 use Rattle.stx_model.specs.Statements.{caught}
-use Rattle.stx_context.specs.Carrying.{context_of}
+use Rattle.stx_context.specs.Carrying.{Carried, context_of}
 use Rattle.stx_machine.specs.declared.completion.Intercepted.{Intercepted}
 use Rattle.stx_machine.specs.declared.interception.Phase.{Phase}
 use Rattle.stx_machine.specs.declared.machine.Machine.{Machine}
 use Rattle.stx_machine.specs.declared.stage.Stage.{Stage}
-use Rattle.stx_machine.specs.Machine.{later_calls, resume, stack, inside, scope_of, acts_of, put_back, context_at, live_of, state_before, state_with}
-use Rattle.stx_machine.specs.Sound.{IsSound, bond_of, is_due}
-use Rattle.stx_machine.proofs.Endings.{before_completion, after_commit}
+use Rattle.stx_machine.specs.declared.tokens.Tokens.{Tokens}
+use Rattle.stx_machine.specs.Machine.{Call, later_calls, resume, stack, inside, scope_of, acts_of, put_back, context_at, live_of, state_before, state_with}
+use Rattle.stx_machine.specs.Sound.{CallCompletes, CallsRun, IsApart, IsIntercepted, IsSound, Standing, StageFits, below_rest, due_in, ends_syncs, one_less, standing_of, standing_under, with_connection, without_own}
+use Rattle.stx_machine.proofs.Standings.{due_given, due_released, pushed_sound, shelters_all, under_some}
+use Rattle.stx_machine.proofs.Endings.{after_commit, after_completion, before_completion}
 use Rattle.stx_machine.proofs.Places.{built_in_known}
 use Rattle.stx_machine.proofs.Stacks.{put_on, live_is}
 use Rattle.stx_machine.proofs.machine.Machine.act.Goals as goal
@@ -27,14 +32,33 @@ returns-in-RoundBeforeCompletion-clause-goes c n pool store =
     let S = c.args.setup.now.scenario in
     let m = c.args.self.now in
     let call = c.args.call in
-    let scope = scope_of call.method call.interception in
     let st = state_before m pool store in
     let at : Result → Result = λ r. later_calls S n m.top (resume S (stack m.frames) (finally r (caught S call.catch))) in
-    let acting : Action → Result = λ a. later_calls S n m.top (resume S (stack m.frames) (acts_of S call (a ∷ c.args.rest.now) c.args.thrown st)) in
-    elim c.in-RoundBeforeCompletion.is [
-      | inl is ↦ ap acting is ∙ ap at (before_completion S (inside S call.method) st c.requires.apart.quiet scope c.args.rest.now c.args.thrown) ∙ c.go_on_with.ensures.goes S n pool store
-      | inr is ↦ ap acting is ∙ ap at (after_commit S (inside S call.method) st c.requires.apart.quiet scope c.args.rest.now c.args.thrown) ∙ c.go_on_with.ensures.goes S n pool store
-    ]
+    ap (λ a. later_calls S n m.top (resume S (stack m.frames) (acts_of S call (a ∷ c.args.rest.now) c.args.thrown st))) c.in-RoundBeforeCompletion.is
+    ∙ ap at (before_completion S (inside S call.method) (scope_of call.method call.interception) c.args.rest.now c.args.thrown st false)
+    ∙ c.begin_round.ensures.goes S n pool store
+
+pub returns-in-RoundAfterCommit-clause-goes : goal.returns-in-RoundAfterCommit-clause-goes
+returns-in-RoundAfterCommit-clause-goes c n pool store =
+    let S = c.args.setup.now.scenario in
+    let m = c.args.self.now in
+    let call = c.args.call in
+    let st = state_before m pool store in
+    let at : Result → Result = λ r. later_calls S n m.top (resume S (stack m.frames) (finally r (caught S call.catch))) in
+    ap (λ a. later_calls S n m.top (resume S (stack m.frames) (acts_of S call (a ∷ c.args.rest.now) c.args.thrown st))) c.in-RoundAfterCommit.is
+    ∙ ap at (after_commit S (inside S call.method) (scope_of call.method call.interception) c.args.rest.now c.args.thrown st true)
+    ∙ c.begin_round-in-RoundAfterCommit.ensures.goes S n pool store
+
+pub returns-in-RoundAfterCompletion-clause-goes : goal.returns-in-RoundAfterCompletion-clause-goes
+returns-in-RoundAfterCompletion-clause-goes c n pool store =
+    let S = c.args.setup.now.scenario in
+    let m = c.args.self.now in
+    let call = c.args.call in
+    let st = state_before m pool store in
+    let at : Result → Result = λ r. later_calls S n m.top (resume S (stack m.frames) (finally r (caught S call.catch))) in
+    ap (λ a. later_calls S n m.top (resume S (stack m.frames) (acts_of S call (a ∷ c.args.rest.now) c.args.thrown st))) c.in-RoundAfterCompletion.is
+    ∙ ap at (after_completion S (inside S call.method) (scope_of call.method call.interception) c.args.rest.now c.args.thrown st c.in-RoundAfterCompletion.committed)
+    ∙ c.begin_round-in-RoundAfterCompletion.ensures.goes S n pool store
 
 pub returns-in-CommitStore-clause-goes : goal.returns-in-CommitStore-clause-goes
 unfolding acts resume
@@ -82,22 +106,26 @@ returns-in-ThrowUnexpected-clause-goes c n pool store =
     let said : List Line → State = λ ls. record (state_before m pool store) { lines = ls } in
     ap (λ a. at (a ∷ c.args.rest.now) c.args.thrown (state_before m pool store)) c.in-ThrowUnexpected.is
     ∙ ap (λ ls. at c.args.rest.now (Some UNEXPECTED_ROLLBACK_EXCEPTION) (said ls)) (sym c.push.ensures.items)
-    ∙ c.go_on_with-in-ThrowUnexpected.ensures.goes S n pool store
+    ∙ c.go_on_with.ensures.goes S n pool store
 
 pub returns-in-ThrowUnexpected-clause-sound : goal.returns-in-ThrowUnexpected-clause-sound
 returns-in-ThrowUnexpected-clause-sound c =
     let S = c.args.setup.now.scenario in
     let m = c.args.self.now in
     let completing = c.requires.completing in
-    let older = is_some c.args.call.interception.scope.suspended in
     let apart = c.requires.apart in
-    let sound = c.go_on_with-in-ThrowUnexpected.ensures.sound S (record {
+    let scope = c.args.call.interception.scope in
+    let sound = c.go_on_with.ensures.sound S (record {
       call = completing.call;
-      intercepted = completing.intercepted;
-      due = subst (λ a. is_due (bond_of m.context.tx) older (a ∷ c.args.rest.now) ≡ true) c.in-ThrowUnexpected.is completing.due;
+      intercepted = subst (λ a. IsIntercepted S c.args.call.method (scope.owns && ends_syncs (a ∷ c.args.rest.now)) (standing_of m.context).syncs) c.in-ThrowUnexpected.is completing.intercepted;
+      due = subst (λ a. due_in scope (standing_of m.context) (a ∷ c.args.rest.now) ≡ true) c.in-ThrowUnexpected.is completing.due;
       class = built_in_known S UNEXPECTED_ROLLBACK_EXCEPTION c.requires.playable (omega arith);
-    }) (record { calls = apart.calls; quiet = apart.quiet; top = apart.top; holds = apart.holds }) in
-    subst (IsSound S c.go_on_with-in-ThrowUnexpected.new.self) (sym c.go_on_with-in-ThrowUnexpected.ensures.held) sound
+    }) (record {
+      calls = subst (λ a. CallsRun S (below_rest scope (a ∷ c.args.rest.now) (standing_of m.context)) (stack m.frames)) c.in-ThrowUnexpected.is apart.calls;
+      top = apart.top;
+      holds = apart.holds;
+    }) in
+    subst (IsSound S c.go_on_with.new.self) (sym c.go_on_with.ensures.held) sound
 
 pub returns-in-GiveBack-clause-goes : goal.returns-in-GiveBack-clause-goes
 unfolding acts resume
@@ -118,3 +146,140 @@ returns-in-GiveBack-clause-goes c n pool store =
     ∙ ap (λ x. at m (gives (state_with m x pool store))) carried
     ∙ ap (λ z. at z (gives (state_with z (context_at (Stage.GivingBack bound) after.context) pool store))) (sym parts.rest)
     ∙ put_on S n after c.put_back-in-GiveBack.new.self (put_back call (Phase.Completing c.args.rest c.args.thrown)) (Stage.GivingBack bound) pool store c.put_back-in-GiveBack.ensures
+
+pub returns-in-BackToPoint-clause-goes : goal.returns-in-BackToPoint-clause-goes
+unfolding acts resume
+returns-in-BackToPoint-clause-goes c n pool store =
+    let S = c.args.setup.now.scenario in
+    let m = c.args.self.now in
+    let call = c.args.call in
+    let t = c.transaction-tx.result in
+    let back : ℕ → Meaning = λ u. ask (Want.BackTo u) (λ _ back. acts S (inside S call.method) (scope_of call.method call.interception) c.args.rest.now c.args.thrown (with_context (with_global_mark false back.context) back)) in
+    ap (λ a. later_calls S n m.top (resume S (stack m.frames) (acts_of S call (a ∷ c.args.rest.now) c.args.thrown (state_before m pool store)))) c.in-BackToPoint.is
+    ∙ ap (λ r. later_calls S n m.top (resume S (stack m.frames) (finally r (caught S call.catch)))) (live_is (context_of m.context).tx t back (state_before m pool store) c.transaction-tx.ensures)
+    ∙ put_on S n m c.put_back-in-BackToPoint.new.self (put_back call (Phase.Completing c.args.rest c.args.thrown)) (Stage.GoingBack t) pool store c.put_back-in-BackToPoint.ensures
+
+pub returns-in-ReleasePoint-clause-goes : goal.returns-in-ReleasePoint-clause-goes
+unfolding acts resume
+returns-in-ReleasePoint-clause-goes c n pool store =
+    let S = c.args.setup.now.scenario in
+    let m = c.args.self.now in
+    let call = c.args.call in
+    let leaves = c.leave_point-tx.ensures in
+    let t = c.leave_point-tx.result in
+    let after = c.leave_point-tx.new.self in
+    let at : Machine → Result → Result = λ z r. later_calls S n z.top (resume S (stack z.frames) (finally r (caught S call.catch))) in
+    let rest : Meaning = acts S (inside S call.method) (scope_of call.method call.interception) c.args.rest.now c.args.thrown in
+    let releases : ℕ → Meaning = λ u. ask (Want.Release u) (λ _. rest) in
+    ap (λ a. later_calls S n m.top (resume S (stack m.frames) (acts_of S call (a ∷ c.args.rest.now) c.args.thrown (state_before m pool store)))) c.in-ReleasePoint.is
+    ∙ ap (at m) (live_is (context_of m.context).tx t releases (state_before m pool store) leaves.number)
+    ∙ ap (λ x. at m (releases t (state_with m x pool store))) (sym leaves.context)
+    ∙ ap (λ z. at z (releases t (state_with z (context_of after.context) pool store))) (sym leaves.rest)
+    ∙ put_on S n after c.put_back-in-ReleasePoint.new.self (put_back call (Phase.Completing c.args.rest c.args.thrown)) (Stage.Releasing t) pool store c.put_back-in-ReleasePoint.ensures
+
+pub returns-in-GiveBack-clause-sound : goal.returns-in-GiveBack-clause-sound
+returns-in-GiveBack-clause-sound c =
+    let S = c.args.setup.now.scenario in
+    let m = c.args.self.now in
+    let call = c.args.call in
+    let scope = call.interception.scope in
+    let rest = c.args.rest.now in
+    let completing = c.requires.completing in
+    let parts = c.part-bound.ensures in
+    let after = c.part-bound.new.self in
+    let standing = standing_of m.context in
+    let due = due_given scope.owns (is_some scope.suspended) standing.bond (is_some standing.syncs) rest
+    (subst (λ a. due_in scope standing (a ∷ rest) ≡ true) c.in-GiveBack.is completing.due) in
+    let parted : Carried = record (m.context) { tx = None } in
+    let holding : Tokens → Tokens = λ t. record t { connection = Some c.part-bound.result.connection } in
+    let held : after.tokens ≡ with_connection c.part-bound.result.connection = parts.connection ∙ ap holding c.requires.apart.holds in
+    let fits : (carried : Carried) → parted ≡ carried → StageFits S (Stage.GivingBack c.part-bound.result) carried (put_back call (Phase.Completing c.args.rest c.args.thrown) ∷ stack m.frames) =
+    λ carried is. subst (λ k. StageFits S (Stage.GivingBack c.part-bound.result) k (put_back call (Phase.Completing c.args.rest c.args.thrown) ∷ stack m.frames)) is
+    ((completing.call, subst (λ a. IsIntercepted S call.method (scope.owns && ends_syncs (a ∷ rest)) standing.syncs) c.in-GiveBack.is completing.intercepted, (due.0, completing.class),
+      subst (λ s. CallsRun S s (stack m.frames)) (under_some scope.suspended _ _ due.2) c.requires.apart.calls),
+     (due.1, due.2)) in
+    pushed_sound S after c.put_back-in-GiveBack.new.self (put_back call (Phase.Completing c.args.rest c.args.thrown)) (Stage.GivingBack c.part-bound.result) _ c.put_back-in-GiveBack.ensures
+    (subst (λ z. StageFits S (Stage.GivingBack c.part-bound.result) z.context (put_back call (Phase.Completing c.args.rest c.args.thrown) ∷ stack z.frames)) (sym parts.rest) (fits after.context (sym parts.context)))
+    (subst (λ z. z.top < most_calls) (sym parts.rest) c.requires.apart.top) held
+
+pub returns-in-ReleasePoint-clause-sound : goal.returns-in-ReleasePoint-clause-sound
+returns-in-ReleasePoint-clause-sound c =
+    let S = c.args.setup.now.scenario in
+    let m = c.args.self.now in
+    let call = c.args.call in
+    let scope = call.interception.scope in
+    let rest = c.args.rest.now in
+    let completing = c.requires.completing in
+    let leaves = c.leave_point-tx.ensures in
+    let after = c.leave_point-tx.new.self in
+    let t = c.leave_point-tx.result in
+    let standing = standing_of m.context in
+    let released : Standing = record { bond = one_less standing.bond; syncs = standing.syncs } in
+    let due = due_released scope.owns (is_some scope.suspended) standing.bond (is_some standing.syncs) rest
+    (subst (λ a. due_in scope standing (a ∷ rest) ≡ true) c.in-ReleasePoint.is completing.due) in
+    let top : Call = put_back call (Phase.Completing c.args.rest c.args.thrown) in
+    let calls = subst (λ a. CallsRun S (below_rest scope (a ∷ rest) standing) (stack m.frames)) c.in-ReleasePoint.is c.requires.apart.calls in
+    let fits : CallCompletes S released (top ∷ stack m.frames) =
+    (completing.call, subst (λ a. IsIntercepted S call.method (scope.owns && ends_syncs (a ∷ rest)) standing.syncs) c.in-ReleasePoint.is completing.intercepted, (due.2, completing.class),
+     subst (λ b. CallsRun S (standing_under scope.suspended (without_own b (scope.owns && ends_syncs rest) released)) (stack m.frames)) (sym due.1) calls) in
+    let now : released ≡ standing_of after.context = λ k. record { bond = sym leaves.bond k; syncs = (sym leaves.context k).syncs } in
+    pushed_sound S after c.put_back-in-ReleasePoint.new.self top (Stage.Releasing t) _ c.put_back-in-ReleasePoint.ensures
+    (subst (λ z. CallCompletes S (standing_of after.context) (top ∷ stack z.frames)) (sym leaves.rest) (subst (λ s. CallCompletes S s (top ∷ stack m.frames)) now fits))
+    (subst (λ z. z.top < most_calls) (sym leaves.rest) c.requires.apart.top) (ap (λ z. z.tokens) leaves.rest ∙ c.requires.apart.holds)
+
+pub returns-in-RoundBeforeCompletion-clause-sound : goal.returns-in-RoundBeforeCompletion-clause-sound
+returns-in-RoundBeforeCompletion-clause-sound c =
+    let S = c.args.setup.now.scenario in
+    let m = c.args.self.now in
+    let call = c.args.call in
+    let scope = call.interception.scope in
+    let rest = c.args.rest.now in
+    let standing = standing_of m.context in
+    let completing = c.requires.completing in
+    let due = and_parts (ends_syncs rest || not scope.owns) _ (subst (λ a. due_in scope standing (a ∷ rest) ≡ true) c.in-RoundBeforeCompletion.is completing.due) in
+    let intercepted = subst (λ a. IsIntercepted S call.method (scope.owns && ends_syncs (a ∷ rest)) standing.syncs) c.in-RoundBeforeCompletion.is completing.intercepted in
+    let sound = c.begin_round.ensures.sound S (record {
+      call = completing.call;
+      intercepted = record { attribute = intercepted.attribute; shelters = shelters_all S call.method scope.owns (ends_syncs rest) standing.syncs due.0 intercepted.shelters };
+      due = due.1;
+      class = completing.class;
+    }) (subst (λ a. IsApart S m (below_rest scope (a ∷ rest) standing)) c.in-RoundBeforeCompletion.is c.requires.apart) in
+    subst (IsSound S c.begin_round.new.self) (sym c.begin_round.ensures.held) sound
+
+pub returns-in-RoundAfterCommit-clause-sound : goal.returns-in-RoundAfterCommit-clause-sound
+returns-in-RoundAfterCommit-clause-sound c =
+    let S = c.args.setup.now.scenario in
+    let m = c.args.self.now in
+    let call = c.args.call in
+    let scope = call.interception.scope in
+    let rest = c.args.rest.now in
+    let standing = standing_of m.context in
+    let completing = c.requires.completing in
+    let due = and_parts (ends_syncs rest || not scope.owns) _ (subst (λ a. due_in scope standing (a ∷ rest) ≡ true) c.in-RoundAfterCommit.is completing.due) in
+    let intercepted = subst (λ a. IsIntercepted S call.method (scope.owns && ends_syncs (a ∷ rest)) standing.syncs) c.in-RoundAfterCommit.is completing.intercepted in
+    let sound = c.begin_round-in-RoundAfterCommit.ensures.sound S (record {
+      call = completing.call;
+      intercepted = record { attribute = intercepted.attribute; shelters = shelters_all S call.method scope.owns (ends_syncs rest) standing.syncs due.0 intercepted.shelters };
+      due = due.1;
+      class = completing.class;
+    }) (subst (λ a. IsApart S m (below_rest scope (a ∷ rest) standing)) c.in-RoundAfterCommit.is c.requires.apart) in
+    subst (IsSound S c.begin_round-in-RoundAfterCommit.new.self) (sym c.begin_round-in-RoundAfterCommit.ensures.held) sound
+
+pub returns-in-RoundAfterCompletion-clause-sound : goal.returns-in-RoundAfterCompletion-clause-sound
+returns-in-RoundAfterCompletion-clause-sound c =
+    let S = c.args.setup.now.scenario in
+    let m = c.args.self.now in
+    let call = c.args.call in
+    let scope = call.interception.scope in
+    let rest = c.args.rest.now in
+    let standing = standing_of m.context in
+    let completing = c.requires.completing in
+    let due = subst (λ a. due_in scope standing (a ∷ rest) ≡ true) c.in-RoundAfterCompletion.is completing.due in
+    let intercepted = subst (λ a. IsIntercepted S call.method (scope.owns && ends_syncs (a ∷ rest)) standing.syncs) c.in-RoundAfterCompletion.is completing.intercepted in
+    let sound = c.begin_round-in-RoundAfterCompletion.ensures.sound S (record {
+      call = completing.call;
+      intercepted = record { attribute = intercepted.attribute; shelters = shelters_all S call.method scope.owns true standing.syncs refl intercepted.shelters };
+      due = due;
+      class = completing.class;
+    }) (subst (λ a. IsApart S m (below_rest scope (a ∷ rest) standing)) c.in-RoundAfterCompletion.is c.requires.apart) in
+    subst (IsSound S c.begin_round-in-RoundAfterCompletion.new.self) (sym c.begin_round-in-RoundAfterCompletion.ensures.held) sound

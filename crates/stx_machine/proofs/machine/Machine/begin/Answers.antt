@@ -9,7 +9,7 @@ use Rattle.stx_model.specs.Statements.{caught}
 use Rattle.stx_context.specs.Carrying.{context_of}
 use Rattle.stx_machine.specs.declared.machine.Machine.{Machine}
 use Rattle.stx_machine.specs.Machine.{later_calls, resume, stack, attribute_of, inside, statements, starts, starts_on, started, phase_after, state_before, state_with, with_syncs_started}
-use Rattle.stx_machine.specs.Sound.{CallOpens, OpensIn, Unbound}
+use Rattle.stx_machine.specs.Sound.{CallOpens, OpensIn}
 use Rattle.stx_machine.proofs.Stacks.{opens_only, some_is, mapped_some}
 use Rattle.stx_machine.proofs.machine.Machine.begin.Goals as goal
 
@@ -26,7 +26,7 @@ returns-clause-goes c n pool store =
     let off = c.take_off-catch.new.self in
     let bound = c.bind.new.self in
     let begun = c.start_syncs_if.new.self in
-    let here = subst (CallOpens S Unbound) c.take_off-catch.ensures.call c.requires.call in
+    let here = subst (CallOpens S) c.take_off-catch.ensures.call c.requires.call in
     let opens = subst (OpensIn i) (opens_only i i.phase here.3) here.3 in
     let older = option_map context_of i.scope.suspended in
     let some = some_is older bare (mapped_some i.scope.suspended opens.1) in

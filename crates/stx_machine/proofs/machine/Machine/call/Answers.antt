@@ -5,8 +5,7 @@ use Rattle.stx_base.specs.declared.line.Line.{Line}
 use Rattle.stx_base.specs.Attributes.{attribute}
 use Rattle.stx_model.specs.Meanings.{Result, State, Over, finally}
 use Rattle.stx_model.specs.Statements.{caught}
-use Rattle.stx_frames.specs.declared.frame.Frame.{Frame}
-use Rattle.stx_machine.specs.Machine.{later_calls, resume, stack, state_before, opened, frame_after}
+use Rattle.stx_machine.specs.Machine.{later_calls, resume, stack, state_before, opened, body_after}
 use Rattle.stx_machine.proofs.CallLaws.{called_with, called_without}
 use Rattle.stx_machine.proofs.machine.Machine.call.Goals as goal
 
@@ -28,5 +27,5 @@ returns-in-None-clause-goes c n pool store =
     let rest : Result → Result = λ r. later_calls S n m.top (resume S (stack m.frames) r) in
     let said : List Line → State = λ ls. record (state_before m pool store) { lines = ls } in
     ap rest (called_without S c.args.method c.args.catch (state_before m pool store) is)
-    ∙ ap (λ ls. rest (frame_after S (Frame.Body c.args.method 0 c.args.catch None) (Over None (said ls)))) (sym c.push-in-None.ensures.items)
+    ∙ ap (λ ls. rest (body_after S c.args.method 0 c.args.catch None (Over None (said ls)))) (sym c.push-in-None.ensures.items)
     ∙ c.enter.ensures.goes S n pool store

@@ -6,7 +6,7 @@ use Rattle.stx_model.specs.Script.{statement}
 use Rattle.stx_model.specs.Statements.{caught}
 use Rattle.stx_frames.specs.declared.frame.Frame.{Frame}
 use Rattle.stx_machine.specs.Machine.{later_calls, resume, stack, call_after, inside, state_before}
-use Rattle.stx_machine.specs.Sound.{IsNext, ScopeRuns, bond_of}
+use Rattle.stx_machine.specs.Sound.{IsNext, ScopeRuns, standing_of}
 use Rattle.stx_machine.proofs.BodyLaws.{may_at, few_at, goes_on, ends_unscoped, ends_scoped, moves_from}
 use Rattle.stx_machine.proofs.Stacks.{resume_pushed}
 use Rattle.stx_machine.proofs.machine.Machine.go_on_body.Goals as goal
@@ -27,7 +27,7 @@ returns-in-Some-clause-goes c n pool store =
     let next = subst (IsNext (body_of S method) c.args.place c.args.thrown) c.in-Some.is c.statement_at.ensures in
     let rest : Result → Result = λ r. later_calls S n m.top (resume S (stack m.frames) (finally r (caught S c.args.catch))) in
     ap (λ x. rest (call_after S method c.args.place c.args.scope (Over x st))) next.0
-    ∙ ap rest (goes_on S method c.args.place st s next.1 (bond_of m.context.tx) c.args.scope c.requires.scope)
+    ∙ ap rest (goes_on S method c.args.place st s next.1 (standing_of m.context) c.args.scope c.requires.scope)
     ∙ ap (later_calls S n m.top)
     (resume_pushed S m.frames c.push.new.self (Frame.Body method (c.args.place + 1) c.args.catch c.args.scope) (statement S (inside S method) s st) c.push.ensures.items)
     ∙ c.make.ensures.goes n pool store
@@ -44,9 +44,9 @@ returns-in-Some-scope-clause-goes c n pool store =
     let st = state_before m pool store in
     let none = subst (IsNext (body_of S method) c.args.place c.args.thrown) c.in-None.is c.statement_at.ensures in
     let rest : Result → Result = λ r. later_calls S n m.top (resume S (stack m.frames) (finally r (caught S c.args.catch))) in
-    let runs = subst (ScopeRuns S (bond_of m.context.tx) method) c.in-Some-scope.is c.requires.scope in
+    let runs = subst (ScopeRuns S (standing_of m.context) method) c.in-Some-scope.is c.requires.scope in
     ap (λ scope. rest (call_after S method c.args.place scope (Over c.args.thrown st))) c.in-Some-scope.is
-    ∙ ap rest (ends_scoped S method c.args.place st c.args.thrown none (bond_of m.context.tx) i runs)
+    ∙ ap rest (ends_scoped S method c.args.place st c.args.thrown none (standing_of m.context) i runs)
     ∙ c.end.ensures.goes n pool store
 
 pub returns-in-None-scope-clause-goes : goal.returns-in-None-scope-clause-goes

@@ -10,7 +10,7 @@ use Rattle.stx_context.specs.Carrying.{context_of}
 use Rattle.stx_machine.specs.declared.stage.Place.{Place}
 use Rattle.stx_machine.specs.declared.stage.Stage.{Stage}
 use Rattle.stx_machine.specs.Machine.{stack, accesses, context_at, finds_none, of_top, want_of}
-use Rattle.stx_machine.specs.Sound.{IsSound, StageFits, Unbound, brought, held_out, no_tokens}
+use Rattle.stx_machine.specs.Sound.{IsSound, StageFits, brought, held_out, no_tokens}
 use Rattle.stx_machine.proofs.Hearing.{hears_pool, heard_given, heard_taken, heard_empty, heard_back}
 use Rattle.stx_machine.proofs.Places.{built_in_known}
 use Rattle.stx_machine.proofs.machine.Machine.hear_pool.Goals as goal
@@ -41,7 +41,7 @@ returns-in-Connecting-Empty-clause-sound c =
     let first = subst (λ s. IsSound S (record m { stage = s }) (brought (Note.Pool c.args.note) (held_out s))) w.is-0 c.requires.sound in
     let sound = subst (λ p. IsSound S (record m { stage = Stage.Connecting w.access-0 w.then-0 }) (brought (Note.Pool p) no_tokens)) w.is-1 first in
     c.throw.ensures.sound S (built_in_known S CANNOT_GET_JDBC_CONNECTION_EXCEPTION c.requires.playable (omega arith))
-    (record { calls = sound.stage; quiet = sound.quiet; top = sound.top; holds = sound.holds })
+    (record { calls = sound.stage; top = sound.top; holds = sound.holds })
 
 pub returns-in-Returning-Given-clause-goes : goal.returns-in-Returning-Given-clause-goes
 returns-in-Returning-Given-clause-goes c n lines pool store line =
@@ -60,7 +60,7 @@ returns-in-Taking-Taken-clause-goes c n lines pool store line =
     let w = c.in-Taking-Taken in
     let opens = subst (λ s. StageFits S s m.context (stack m.frames)) w.is-0 c.requires.sound.stage in
     hears_pool S n m lines Stage.Taking pool store (of_top S (stack m.frames) (Stage.Beginning w.connection)) w.is-0 (context_of m.context) c.args.note (PoolNote.Taken w.connection) w.is-1 line
-    (heard_taken S lines (context_of m.context) m.local pool store (stack m.frames) Unbound w.connection opens.1)
+    (heard_taken S lines (context_of m.context) m.local pool store (stack m.frames) w.connection opens.1)
 
 pub returns-in-Taking-Empty-clause-goes : goal.returns-in-Taking-Empty-clause-goes
 returns-in-Taking-Empty-clause-goes c n lines pool store line =
@@ -69,8 +69,15 @@ returns-in-Taking-Empty-clause-goes c n lines pool store line =
     let w = c.in-Taking-Empty in
     let opens = subst (λ s. StageFits S s m.context (stack m.frames)) w.is-0 c.requires.sound.stage in
     hears_pool S n m lines Stage.Taking pool store (finds_none S (stack m.frames)) w.is-0 (context_of m.context) c.args.note PoolNote.Empty w.is-1 line
-    (heard_empty S lines (context_of m.context) m.local pool store (stack m.frames) Unbound opens.1)
+    (heard_empty S lines (context_of m.context) m.local pool store (stack m.frames) opens.1)
     ∙ c.give_up_opening.ensures.goes S opens.1 n pool store
+
+pub returns-in-Taking-Empty-clause-sound : goal.returns-in-Taking-Empty-clause-sound
+returns-in-Taking-Empty-clause-sound c =
+    let S = c.args.setup.now.scenario in
+    let m = c.args.self.now in
+    let opens = subst (λ s. StageFits S s m.context (stack m.frames)) c.in-Taking-Empty.is-0 c.requires.sound.stage in
+    c.give_up_opening.ensures.sound S opens.1
 
 pub returns-in-GivingBack-Given-clause-goes : goal.returns-in-GivingBack-Given-clause-goes
 returns-in-GivingBack-Given-clause-goes c n lines pool store line =

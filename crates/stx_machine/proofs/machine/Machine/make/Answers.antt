@@ -2,6 +2,7 @@
 use Rattle.std.proofs.Common.{◌≡◌, ◌∙◌, Some, sym, ap, subst}
 use Rattle.stx_scenario.specs.declared.scenario.Stmt.{Stmt}
 use Rattle.stx_base.specs.Weight.{rank}
+use Rattle.stx_model.specs.Below.{SyncBelow}
 use Rattle.stx_model.specs.Meanings.{Result, finally}
 use Rattle.stx_model.specs.Rounds.{Proxied, Direct, callback_statement}
 use Rattle.stx_model.specs.Script.{statement, invoked}
@@ -22,7 +23,7 @@ returns-in-Call-clause-goes c n pool store =
     let rest : Result → Result = λ r. later_calls S n m.top (resume S (stack m.frames) r) in
     let may : MayMake S caller (Stmt.Call c.in-Call.method c.in-Call.catch) = subst (MayMake S caller) c.in-Call.is c.requires.may in
     ap (λ s. rest (statement S (inside S caller) s st)) c.in-Call.is
-    ∙ ap (λ r. rest (finally r (caught S c.in-Call.catch))) (calls_at S Proxied c.in-Call.method st (rank S caller) may.1)
+    ∙ ap (λ r. rest (finally r (caught S c.in-Call.catch))) (calls_at S Proxied c.in-Call.method st (rank S caller) may.low)
     ∙ c.call.ensures.goes n pool store
 
 pub returns-in-This-clause-goes : goal.returns-in-This-clause-goes
@@ -35,7 +36,7 @@ returns-in-This-clause-goes c n pool store =
     let rest : Result → Result = λ r. later_calls S n m.top (resume S (stack m.frames) r) in
     let may : MayMake S caller (Stmt.This c.in-This.method c.in-This.catch) = subst (MayMake S caller) c.in-This.is c.requires.may in
     ap (λ s. rest (statement S (inside S caller) s st)) c.in-This.is
-    ∙ ap (λ r. rest (finally r (caught S c.in-This.catch))) (calls_at S Direct c.in-This.method st (rank S caller) may.1)
+    ∙ ap (λ r. rest (finally r (caught S c.in-This.catch))) (calls_at S Direct c.in-This.method st (rank S caller) may.low)
     ∙ c.call_directly.ensures.goes S n pool store
 
 pub returns-in-Throw-clause-goes : goal.returns-in-Throw-clause-goes
@@ -54,6 +55,14 @@ returns-in-Mark-clause-goes c n pool store =
     ap (λ s. later_calls S n m.top (resume S (stack m.frames) (statement S (inside S c.args.caller) s (state_before m pool store)))) c.in-Mark.is
     ∙ c.mark.ensures.goes S n pool store
 
+pub returns-in-Register-clause-goes : goal.returns-in-Register-clause-goes
+unfolding statement
+returns-in-Register-clause-goes c n pool store =
+    let S = c.args.setup.now.scenario in
+    let m = c.args.self.now in
+    ap (λ s. later_calls S n m.top (resume S (stack m.frames) (statement S (inside S c.args.caller) s (state_before m pool store)))) c.in-Register.is
+    ∙ c.register.ensures.goes n pool store
+
 pub returns-in-Some-clause-goes : goal.returns-in-Some-clause-goes
 returns-in-Some-clause-goes c n pool store =
     let S = c.args.setup.now.scenario in
@@ -61,3 +70,9 @@ returns-in-Some-clause-goes c n pool store =
     ap (λ r. later_calls S n m.top (resume S (stack m.frames) r))
     (row_is S (inside S c.args.caller) (state_before m pool store) c.args.statement c.in-Some.access c.in-Some.then (sym c.access_of.ensures ∙ c.in-Some.is))
     ∙ c.want_access.ensures.goes S n pool store
+
+pub returns-in-Register-clause-sound : goal.returns-in-Register-clause-sound
+returns-in-Register-clause-sound c =
+    let S = c.args.setup.now.scenario in
+    let may : MayMake S c.args.caller (Stmt.Register c.in-Register.sync) = subst (MayMake S c.args.caller) c.in-Register.is c.requires.may in
+    c.register.ensures.sound c.requires.playable (subst (λ k. SyncBelow S k c.in-Register.sync) (sym c.requires.rank) may) c.requires.within

@@ -9,8 +9,8 @@ use Rattle.stx_model.specs.Scopes.{opens, suspend, suspended}
 use Rattle.stx_model.specs.Statements.{caught}
 use Rattle.stx_context.specs.Carrying.{context_of}
 use Rattle.stx_machine.specs.Machine.{later_calls, resume, stack, inside, attribute_of, statements, started, fresh_begun, state_before}
-use Rattle.stx_machine.proofs.OpeningLaws.{found_for, none_of, refused_known, fresh_bare, empty_free, no_point, suspended_either}
-use Rattle.stx_machine.proofs.Places.{plain, built_in_known}
+use Rattle.stx_machine.proofs.OpeningLaws.{found_for, none_of, refused_known, fresh_bare, empty_free, point_live, some_of, suspended_either, told_fresh}
+use Rattle.stx_machine.proofs.Places.{built_in_known}
 use Rattle.stx_machine.proofs.machine.Machine.open.Goals as goal
 
 pub open_empty-requires-clause-free : goal.open_empty-requires-clause-free
@@ -21,13 +21,13 @@ open_empty-requires-clause-free c owns not =
     let is = found_for S.settings context c.attribute_of-attribute.result.now a c.opening.result (Opening.Empty c.in-Empty.suspends c.in-Empty.owns) c.attribute_of-attribute.ensures c.opening.ensures c.in-Empty.is in
     none_of c.args.self.now.context.syncs (empty_free S.settings a context c.in-Empty.suspends c.in-Empty.owns is owns not)
 
-pub unreachable-requires : goal.unreachable-requires
-unreachable-requires c =
+pub open_point-requires-clause-bound : goal.open_point-requires-clause-bound
+open_point-requires-clause-bound c =
     let S = c.args.setup.now.scenario in
     let context = context_of c.args.self.now.context in
     let a = attribute_of S c.args.method in
     let is = found_for S.settings context c.attribute_of-attribute.result.now a c.opening.result Opening.Point c.attribute_of-attribute.ensures c.opening.ensures c.in-Point.is in
-    no_point S.settings a context (plain S c.args.method c.requires.playable) is
+    some_of c.args.self.now.context.tx (point_live S.settings a context is)
 
 pub returns-in-Refuse-clause-sound : goal.returns-in-Refuse-clause-sound
 returns-in-Refuse-clause-sound c =
@@ -88,3 +88,23 @@ returns-in-Empty-clause-goes c n pool store =
     let is = found_for S.settings context c.attribute_of-attribute.result.now a c.opening.result o c.attribute_of-attribute.ensures c.opening.ensures c.in-Empty.is in
     ap (λ o. later_calls S n m.top (resume S (stack m.frames) (finally (opens S (inside S c.args.method) c.args.method a (statements S c.args.method 0) o (state_before m pool store)) (caught S c.args.catch)))) is
     ∙ c.open_empty.ensures.goes S n pool store
+
+pub returns-in-Point-clause-goes : goal.returns-in-Point-clause-goes
+unfolding opens
+returns-in-Point-clause-goes c n pool store =
+    let S = c.args.setup.now.scenario in
+    let m = c.args.self.now in
+    let context = context_of m.context in
+    let a = attribute_of S c.args.method in
+    let is = found_for S.settings context c.attribute_of-attribute.result.now a c.opening.result Opening.Point c.attribute_of-attribute.ensures c.opening.ensures c.in-Point.is in
+    ap (λ o. later_calls S n m.top (resume S (stack m.frames) (finally (opens S (inside S c.args.method) c.args.method a (statements S c.args.method 0) o (state_before m pool store)) (caught S c.args.catch)))) is
+    ∙ c.open_point.ensures.goes S n pool store
+
+pub open_fresh-requires-clause-told : goal.open_fresh-requires-clause-told
+open_fresh-requires-clause-told c =
+    let S = c.args.setup.now.scenario in
+    let context = context_of c.args.self.now.context in
+    let a = attribute_of S c.args.method in
+    let o = Opening.Fresh c.in-Fresh.suspends c.in-Fresh.owns in
+    let is = found_for S.settings context c.attribute_of-attribute.result.now a c.opening.result o c.attribute_of-attribute.ensures c.opening.ensures c.in-Fresh.is in
+    c.requires.told ∙ told_fresh S c.args.method c.args.catch context c.in-Fresh.suspends c.in-Fresh.owns is

@@ -1,0 +1,24 @@
+-- The call waits for its savepoint.
+use Rattle.std.proofs.Common.{◌≡◌, ◌∙◌, ◌∷◌, ℕ, List, Some, None, false, true, refl, sym, ap, subst}
+use Rattle.stx_base.specs.declared.call.Want.{Want}
+use Rattle.stx_base.specs.declared.manager.Kind.{Kind}
+use Rattle.stx_model.specs.Meanings.{State, Result, Meaning, ask, finally}
+use Rattle.stx_model.specs.Statements.{caught}
+use Rattle.stx_context.specs.Carrying.{context_of}
+use Rattle.stx_manager.specs.Scopes.{new_scope}
+use Rattle.stx_machine.specs.declared.interception.Phase.{Phase}
+use Rattle.stx_machine.specs.declared.machine.Machine.{Machine}
+use Rattle.stx_machine.specs.declared.stage.Stage.{Stage}
+use Rattle.stx_machine.specs.Machine.{Call, later_calls, resume, stack, new_call, pointed, state_before}
+use Rattle.stx_machine.proofs.Stacks.{live_is, put_on}
+use Rattle.stx_machine.proofs.machine.Machine.open_point.Goals as goal
+
+pub returns-clause-goes : goal.returns-clause-goes
+unfolding resume
+returns-clause-goes c S n pool store =
+    let m = c.args.self.now in
+    let t = c.transaction-tx.result in
+    let points : ℕ → Meaning = λ u. ask (Want.Point u) (λ _. pointed S c.args.method) in
+    let at : Result → Result = λ r. later_calls S n m.top (resume S (stack m.frames) (finally r (caught S c.args.catch))) in
+    ap at (live_is (context_of m.context).tx t points (state_before m pool store) c.transaction-tx.ensures)
+    ∙ put_on S n m c.push_call.new.self (new_call c.args.method c.args.catch c.new.result m.local Phase.Opening) (Stage.Pointing t) pool store c.push_call.ensures
