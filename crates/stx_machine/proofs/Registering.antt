@@ -14,8 +14,8 @@ use Rattle.stx_frames.specs.declared.frame.Frame.{Frame}
 use Rattle.stx_manager.specs.Scopes.{OpenScope}
 use Rattle.stx_machine.specs.declared.interception.Interception.{Interception}
 use Rattle.stx_machine.specs.declared.interception.Phase.{Phase}
-use Rattle.stx_machine.specs.Machine.{Call}
-use Rattle.stx_machine.specs.Sound.{Bond, CallsRun, IsIntercepted, RoundsIn, RunsIn, Shelters, Standing, below_phase, below_scope, caller_rank, due_told, ends_after, has_own_of, is_point, nothing, one_less, owns_in, releases, standing_under, without_own}
+use Rattle.stx_machine.specs.Machine.{Call, caller_rank}
+use Rattle.stx_machine.specs.Sound.{Bond, CallsRun, IsIntercepted, RoundsIn, RunsIn, Shelters, Standing, below_phase, below_scope, due_told, ends_after, has_own_of, is_point, nothing, one_less, owns_in, releases, standing_under, without_own}
 
 module _ (S : Scenario) (r : Registration) where
   -- with these registrations
@@ -96,4 +96,4 @@ registers_run S r (Frame.Round round todo at_ place x ∷ Frame.Body m statement
 registers_run S r (Frame.Round round todo at_ place x ∷ Frame.Round other rest told statement y ∷ fs) below bond list calls = absurd calls
 registers_run S r (Frame.Round round todo at_ place x ∷ Frame.Now listener statement ∷ fs) below bond list calls = absurd calls
 registers_run S r (Frame.Round round todo at_ place x ∷ []) below bond list calls = absurd calls
-registers_run S r (Frame.Now listener place ∷ fs) below bond list calls = absurd calls
+registers_run S r (Frame.Now listener place ∷ fs) below bond list calls = (calls.0, calls.1, calls.2, registers_run S r fs below bond list calls.3)

@@ -19,10 +19,10 @@ use Rattle.stx_machine.proofs.Places.{drop_at, drop_past}
 
 module _ (S : Scenario) (way : Way) (m : MethodNo) (st : State) where
   -- within any bound above its rank a method is called in the same way
-  pub calls_at : (bound : ℕ) → rank S m < bound → calls_below S bound way m st ≡ invoked S (inside S m) way m st
+  pub called_at : (bound : ℕ) → rank S m < bound → calls_below S bound way m st ≡ invoked S (inside S m) way m st
   unfolding calls_below
-  calls_at zero less = absurd (omega (arith, less))
-  calls_at (suc bound) less = by_rank (rank S m == bound) (calls_at bound) refl
+  called_at zero less = absurd (omega (arith, less))
+  called_at (suc bound) less = by_rank (rank S m == bound) (called_at bound) refl
     where
       by_rank : (b : Bool) → (rank S m < bound → calls_below S bound way m st ≡ invoked S (inside S m) way m st) → (rank S m == bound) ≡ b
           → elim b as (λ _. Result) [ true ↦ invoked S (calls_below S bound) way m st | false ↦ calls_below S bound way m st ] ≡ invoked S (inside S m) way m st
@@ -54,4 +54,4 @@ module _ (S : Scenario) (n top : ℕ) (calls : List MethodNo) (there : slice_get
   one_call m here low =
       let split = calls_are ∙ drop_at calls top m here ∙ ap (λ cs. m ∷ cs) (ap (λ o. drop (top + 1) (unwrap_or o [])) (sym there)) in
       ap (λ cs. tops S top cs st) split
-      ∙ ap (later_calls S n top) (calls_at S Proxied m (say (Line.Top top) st) 65 (omega (arith, low)) ∙ sym (uncaught S (invoked S (inside S m) Proxied m (say (Line.Top top) st))))
+      ∙ ap (later_calls S n top) (called_at S Proxied m (say (Line.Top top) st) 65 (omega (arith, low)) ∙ sym (uncaught S (invoked S (inside S m) Proxied m (say (Line.Top top) st))))
