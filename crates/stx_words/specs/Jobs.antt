@@ -3,7 +3,7 @@ use Rattle.std.specs.Prelude.{if◌then◌else◌, ℕ, List, [], ◌∷◌, cod
 use Rattle.std.specs.Str.{bytes_eq}
 use Rattle.std.specs.declared.alloc.Global.{Global}
 use Rattle.clap.specs.Words.{App, Kinds, Row, fault_of, matches_of, with_rule}
-use Rattle.stx_words.specs.Options.{plain_app, do_rule, seed_rule, clients_rule, job_in, seed_in, clients_in}
+use Rattle.stx_words.specs.Options.{plain_app, do_rule, seed_rule, clients_rule, job_in, seed_in, clients_in, IsClientCount}
 use Rattle.stx_words.specs.declared.job.Job.{Job}
 use Rattle.stx_words.specs.declared.run_job.RunJob.{RunJob}
 
@@ -20,6 +20,11 @@ job_named rows word =
 abbrev pub job_by : List Row → Option Job
 job_by rows = option_and_then (job_named rows) (job_in rows)
 
+-- a load has a count of clients that can be
+abbrev pub HasClients : Job → Type 0
+HasClients (Job.Load seed clients) = IsClientCount clients
+HasClients _ = Unit {0}
+
 -- the job of `springtx_run` that a word under `--do` names
 abbrev pub run_job_named : List Row → List ℕ → Option RunJob
 run_job_named rows word =
@@ -30,6 +35,10 @@ run_job_named rows word =
 -- the job that the values of the options state
 abbrev pub run_job_by : List Row → Option RunJob
 run_job_by rows = option_and_then (run_job_named rows) (job_in rows)
+
+abbrev pub RunHasClients : RunJob → Type 0
+RunHasClients (RunJob.Load seed clients) = IsClientCount clients
+RunHasClients RunJob.Run = Unit {0}
 
 -- the command line of a program of this name, without groups of options and rules between them
 abbrev pub app_named : List ℕ → App
