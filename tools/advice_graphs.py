@@ -204,6 +204,6 @@ def not_yet(document, refused):
     place = places.value_place(node) if node is not None else places.head_place(document.text, parent)
     what = quoted(document.text[node.start : node.end]) if node is not None else f"no {steps[-1]}"
     return Advice(
-        place, f"the scenario is valid, and this form isn't played yet: {what}", "every propagation but nested, and no publication and no registration",
+        place, f"the scenario is valid, and this form isn't played yet: {what}", "every propagation, and every statement but publish",
         "./play --do check and --do rules take the scenario; play one without this",
     )

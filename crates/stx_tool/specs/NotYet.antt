@@ -1,12 +1,10 @@
--- The forms that aren't played yet: the first place, in walk order, of a valid scenario that has one.
-use Rattle.std.specs.Prelude.{ℕ, ◌+◌, Bool, true, false, not, List, [], ◌∷◌, ◌++◌, codes, Option, Some, None}
+-- The forms that aren't played yet, publications alone: the first place, in walk order, of a valid scenario that has one.
+use Rattle.std.specs.Prelude.{ℕ, ◌+◌, Bool, true, false, List, [], ◌∷◌, ◌++◌, codes, Option, Some, None}
 use Rattle.std.specs.Option.{option_or}
 use Rattle.stx_scenario.specs.declared.scenario.Scenario.{Scenario}
-use Rattle.stx_scenario.specs.declared.scenario.Bean.{Bean}
 use Rattle.stx_scenario.specs.declared.scenario.Method.{Method}
-use Rattle.stx_scenario.specs.declared.scenario.TxAttr.{TxAttr}
 use Rattle.stx_scenario.specs.declared.scenario.Stmt.{Stmt}
-use Rattle.stx_model.specs.Built.{is_nested, is_built}
+use Rattle.stx_model.specs.Built.{is_built}
 use Rattle.stx_refusals.specs.Faults.{under, entry}
 
 -- this place, unless its form is built
@@ -19,23 +17,14 @@ abbrev pub first_from : {A : Type 0} → (ℕ → A → Option (List ℕ)) → �
 first_from place n [] = None
 first_from place n (x ∷ xs) = option_or (place n x) (first_from place (n + 1) xs)
 
-abbrev pub tx_not_yet : List ℕ → Option TxAttr → Option (List ℕ)
-tx_not_yet path None = None
-tx_not_yet path (Some tx) = unless_built (not (is_nested tx.propagation)) (under (under path (codes "tx")) (codes "propagation"))
-
-abbrev pub bean_not_yet : ℕ → Bean → Option (List ℕ)
-bean_not_yet n bean = tx_not_yet (entry (codes "beans") n) bean.tx
-
 abbrev pub statement_not_yet : List ℕ → ℕ → Stmt → Option (List ℕ)
 statement_not_yet body n s = unless_built (is_built s) (entry body n)
 
 abbrev pub method_not_yet : ℕ → Method → Option (List ℕ)
-method_not_yet n method =
-    let path = entry (codes "methods") n in
-    option_or (tx_not_yet path method.tx) (first_from (statement_not_yet (under path (codes "body"))) 0 method.body)
+method_not_yet n method = first_from (statement_not_yet (under (entry (codes "methods") n) (codes "body"))) 0 method.body
 
 unfoldable pub not_yet : Scenario → Option (List ℕ)
-not_yet S = option_or (first_from bean_not_yet 0 S.beans) (first_from method_not_yet 0 S.methods)
+not_yet S = first_from method_not_yet 0 S.methods
 
 abbrev pub not_yet_text : List ℕ → List ℕ
 not_yet_text path = codes "refused 17 NotYet " ++ path ++ 10 ∷ []
