@@ -1,5 +1,5 @@
 -- A body at a place: its next statement, or its end.
-use Rattle.std.proofs.Common.{◌≡◌, ◌⊎◌, ◌==◌, inl, inr, get_or, ℕ, ◌+◌, ◌<◌, ◌≤◌, Bool, true, false, ◌&&◌, List, [], ◌∷◌, drop, length, Option, Some, None, refl, sym, ap, ◌∙◌, subst, arith}
+use Rattle.std.proofs.Common.{◌≡◌, ◌⊎◌, ◌==◌, inl, inr, get_or, ℕ, ◌+◌, ◌<◌, ◌≤◌, true, false, length, Option, Some, None, refl, sym, ap, ◌∙◌, subst, arith}
 use Rattle.std.specs.Prelude.{slice_get}
 use Rattle.std.specs.Option.{option_map_or}
 use Rattle.std.proofs.lemmas.Bool.{false≢true, and_parts, ltb-true}
@@ -12,16 +12,15 @@ use Rattle.stx_scenario.specs.declared.scenario.Scenario.{Scenario}
 use Rattle.stx_scenario.specs.declared.scenario.Stmt.{Stmt}
 use Rattle.stx_base.specs.Valid.{is_catch, is_own_method, names_known, own_known}
 use Rattle.stx_base.specs.Weight.{body_of, rank}
-use Rattle.stx_model.specs.Meanings.{State, Result, Over, and_then, finally}
+use Rattle.stx_model.specs.Meanings.{State, Over, and_then, finally}
 use Rattle.stx_model.specs.Scopes.{leaves, ends}
 use Rattle.stx_model.specs.Script.{statement, body}
 use Rattle.stx_model.specs.Below.{StatementBelow}
 use Rattle.stx_machine.specs.declared.interception.Interception.{Interception}
-use Rattle.stx_machine.specs.declared.interception.Phase.{Phase}
 use Rattle.stx_machine.specs.declared.machine.Machine.{Machine}
-use Rattle.stx_machine.specs.Machine.{IsClass, IsLonger, Moves, Says, Waits, Shrinks, attribute_of, call_after, inside, phase_after, scope_of, statements}
+use Rattle.stx_machine.specs.Machine.{IsClass, Moves, Says, Waits, Shrinks, attribute_of, call_after, inside, phase_after, scope_of, statements}
 use Rattle.stx_model.specs.Playable.{IsPlayable}
-use Rattle.stx_machine.specs.Sound.{Standing, IsCall, IsNext, MayMake, ScopeRuns}
+use Rattle.stx_machine.specs.Sound.{Standing, IsNext, MayMake, ScopeRuns}
 use Rattle.stx_machine.proofs.Places.{body_is, known_at, own_at, below_at, few_statements, drop_at, drop_past}
 use Rattle.stx_machine.proofs.Stacks.{runs_only}
 

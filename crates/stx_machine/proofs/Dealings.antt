@@ -1,16 +1,15 @@
 -- The listeners of a publication, one after the other: each is dealt with once.
-use Rattle.std.proofs.Common.{◌≡◌, ◌≢◌, ◌∙◌, ◌++◌, ◌∷◌, [], ℕ, zero, suc, ◌+◌, ◌<◌, ◌≤◌, ◌==◌, ◌&&◌, Bool, true, false, cond, ℤ, List, map, Option, Some, None, refl, sym, ap, subst, arith, filter, eq-eqb, eqb-true, drop, length, slice_index_or, add-one}
+use Rattle.std.proofs.Common.{◌≡◌, ◌≢◌, ◌∙◌, ◌∷◌, [], ℕ, zero, suc, ◌+◌, ◌<◌, ◌==◌, ◌&&◌, Bool, true, false, cond, ℤ, List, map, Option, Some, None, refl, sym, ap, subst, arith, filter, eq-eqb, eqb-true, drop, length, slice_index_or, add-one}
 use Rattle.std.specs.Prelude.{⊤, int_lt, slice_get}
 use Rattle.std.specs.Option.{option_map, option_map_or}
 use Rattle.std.specs.List.{AllByRecursion, enumerate_from, fold}
-use Rattle.std.proofs.lemmas.Bool.{false≢true}
 use Rattle.stx_scenario.specs.declared.numbers.EventNo.{EventNo}
 use Rattle.stx_scenario.specs.declared.numbers.ListenerNo.{ListenerNo}
 use Rattle.stx_scenario.specs.declared.scenario.Scenario.{Scenario}
 use Rattle.stx_scenario.specs.declared.scenario.Listener.{Listener}
 use Rattle.stx_events.specs.declared.deeds.Deed.{Deed as DeedData}
 use Rattle.stx_events.specs.Deeds.{deed_of}
-use Rattle.stx_model.specs.Listeners.{Deed, Register, RunNow, Skip, Numbered, dealt_with, deed, deeds, listening}
+use Rattle.stx_model.specs.Listeners.{Deed, RunNow, Skip, Numbered, dealt_with, deed, deeds, listening}
 use Rattle.stx_base.specs.declared.line.Line.{Line}
 use Rattle.stx_model.specs.Below.{listener_body}
 use Rattle.stx_model.specs.Meanings.{Over, State, and_then, say}
@@ -192,7 +191,7 @@ dealt_names : (S : Scenario) (e : EventNo) → AllByRecursion (Names S e) (dealt
 dealt_names S e =
     by_order_all (Names S e) (λ l. l.1.order) (listening S e)
     (filter_all (Names S e) (λ l. l.1.event.0 == e.0) (enumerate_from 0 S.listeners)
-     (numbered_all (λ l. (l.1.event.0 == e.0) ≡ true → Names S e l) 0 S.listeners (λ i x there is. (subst (λ n. slice_get S.listeners n ≡ Some x) (omega arith) there, eqb-true x.event.0 e.0 is))))
+    (numbered_all (λ l. (l.1.event.0 == e.0) ≡ true → Names S e l) 0 S.listeners (λ i x there is. (subst (λ n. slice_get S.listeners n ≡ Some x) (omega arith) there, eqb-true x.event.0 e.0 is))))
 
 -- a listener that runs at once is one of the event, and its publication doesn't register
 abbrev IsRun : Scenario → EventNo → Bool → Deed → Type 0

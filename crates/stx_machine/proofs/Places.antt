@@ -1,13 +1,12 @@
 -- Lists by place, and what is known of a method, of its statements and of a client's calls in a playable scenario.
 use Rattle.std.proofs.Common.{◌≡◌, ℕ, zero, suc, ◌+◌, ◌<◌, ◌≤◌, true, List, [], ◌∷◌, drop, length, Option, Some, None, refl, sym, ap, ◌∙◌, subst, arith, add-one}
-use Rattle.std.specs.Prelude.{min, false, slice_get, unwrap_or, IfSome}
-use Rattle.std.specs.Option.{option_and_then}
+use Rattle.std.specs.Prelude.{min, slice_get, unwrap_or, IfSome}
 use Rattle.std.proofs.lemmas.List.{length-take}
 use Rattle.stx_scenario.specs.declared.numbers.ClassNo.{ClassNo}
 use Rattle.stx_scenario.specs.declared.scenario.TxAttr.{TxAttr}
 use Rattle.stx_scenario.specs.BuiltIn.{built_in}
-use Rattle.stx_base.specs.Attributes.{attribute, method_attribute}
-use Rattle.std.specs.List.{AllByRecursion, AllPass}
+use Rattle.stx_base.specs.Attributes.{attribute}
+use Rattle.std.specs.List.{AllByRecursion}
 use Rattle.std.proofs.lemmas.Option.{slice_get_within}
 use Rattle.stx_scenario.specs.declared.numbers.MethodNo.{MethodNo}
 use Rattle.stx_scenario.specs.declared.scenario.Method.{Method}

@@ -1,5 +1,5 @@
 -- Rounds and callbacks, one after the other.
-use Rattle.std.proofs.Common.{◌≡◌, ℕ, zero, suc, ◌+◌, ◌-◌, ◌*◌, ◌^◌, ◌<◌, ◌≤◌, Bool, true, false, List, [], ◌∷◌, drop, length, map, Option, Some, None, refl, sym, ap, ◌∙◌, subst, arith, add-one}
+use Rattle.std.proofs.Common.{◌≡◌, ℕ, zero, suc, ◌+◌, ◌*◌, ◌^◌, ◌<◌, ◌≤◌, Bool, true, false, List, [], ◌∷◌, drop, length, map, Option, Some, None, refl, sym, ap, ◌∙◌, subst, arith, add-one}
 use Rattle.std.specs.Prelude.{◌&&◌, not, slice_get}
 use Rattle.std.specs.Option.{is_some, option_map_or, option_or}
 use Rattle.std.proofs.lemmas.Option.{slice_get_within}
@@ -526,7 +526,7 @@ module _ (S : Scenario) (before after : Machine) (call : Intercepted) (course : 
         calls =
             subst (λ frames. CallsRun S (below_round scope course (standing_of after.context)) (stack frames)) (sym begun_frames)
             (subst (λ below. CallsRun S below (stack before.frames))
-             (below_begun scope owned (standing_of before.context) course.rest.now course.round ∙ ap (below_round scope course) (sym begun_standing)) apart.calls);
+            (below_begun scope owned (standing_of before.context) course.rest.now course.round ∙ ap (below_round scope course) (sym begun_standing)) apart.calls);
         top = subst (λ top. top < most_calls) (sym (ap (λ (z : Machine). z.top) begins.rest)) apart.top;
         holds = ap (λ (z : Machine). z.tokens) begins.rest ∙ apart.holds;
       }

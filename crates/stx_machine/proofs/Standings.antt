@@ -1,6 +1,6 @@
 -- What the calls under way rely on: where a call is put on top, where an action is done, and where a savepoint is made.
-use Rattle.std.proofs.Common.{◌≡◌, ◌∙◌, ◌∷◌, [], ℕ, zero, suc, ◌+◌, ◌-◌, ◌<◌, ◌≤◌, Bool, true, false, List, Option, Some, None, refl, sym, ap, subst, arith, add-one}
-use Rattle.std.specs.Prelude.{◌&&◌, ◌||◌, not, IsSome, IsTrue, ◌^◌}
+use Rattle.std.proofs.Common.{◌≡◌, ◌∙◌, ◌∷◌, [], ℕ, zero, suc, ◌+◌, ◌<◌, ◌≤◌, Bool, true, false, List, Option, Some, None, refl, sym, ap, subst, arith}
+use Rattle.std.specs.Prelude.{◌&&◌, ◌||◌, not, IsSome}
 use Rattle.std.specs.Option.{is_some, option_map}
 use Rattle.std.proofs.lemmas.Bool.{false≢true, and_parts}
 use Rattle.stx_scenario.specs.declared.numbers.MethodNo.{MethodNo}
@@ -21,8 +21,8 @@ use Rattle.stx_machine.specs.declared.machine.Machine.{Machine}
 use Rattle.stx_machine.specs.declared.stage.Stage.{Stage}
 use Rattle.stx_machine.specs.declared.tokens.Tokens.{Tokens}
 use Rattle.stx_scenario.specs.declared.numbers.ClassNo.{ClassNo}
-use Rattle.stx_machine.specs.Machine.{Call, left_in, left_of, IsPushed, rest_of, stack, caller_rank}
-use Rattle.stx_machine.specs.Sound.{Bond, Unbound, Runs, Ended, CallPoints, CallsRun, IsBody, IsEarly, IsSound, Standing, StageFits, below_call, below_rest, below_scope, bond_of, RoundsIn, RunsIn, Shelters, below_phase, below_round, due_in, due_told, ends_after, ends_syncs, has_ended, has_own_of, has_point, is_due, is_last, is_point, is_resumption, is_unbound, nothing, one_less, one_more, points_of, releases, runs, standing_of, standing_under, without_own}
+use Rattle.stx_machine.specs.Machine.{Call, left_in, left_of, IsPushed, stack, caller_rank}
+use Rattle.stx_machine.specs.Sound.{Bond, Unbound, Runs, Ended, CallPoints, CallsRun, IsBody, IsEarly, IsSound, Standing, StageFits, below_rest, below_scope, bond_of, RoundsIn, RunsIn, Shelters, below_phase, below_round, due_in, due_told, ends_after, ends_syncs, has_ended, has_own_of, has_point, is_due, is_last, is_point, is_resumption, is_unbound, nothing, one_less, one_more, points_of, releases, runs, standing_of, standing_under, without_own}
 use Rattle.stx_machine.proofs.Hearing.{resumption_is}
 use Rattle.stx_machine.proofs.Stacks.{pushed, runs_only}
 

@@ -1,8 +1,7 @@
 -- A client's calls one after the other, and methods called by their rank.
-use Rattle.std.proofs.Common.{◌≡◌, ◌≢◌, ℕ, zero, suc, ◌+◌, ◌<◌, ◌≤◌, ◌==◌, Bool, true, false, List, [], ◌∷◌, drop, Option, Some, None, refl, sym, ap, ◌∙◌, arith, eq-eqb, eqb-true}
+use Rattle.std.proofs.Common.{◌≡◌, ◌≢◌, ℕ, zero, suc, ◌+◌, ◌<◌, ◌≤◌, ◌==◌, Bool, true, false, List, [], ◌∷◌, drop, Some, None, refl, sym, ap, ◌∙◌, arith, eq-eqb, eqb-true}
 use Rattle.std.specs.Prelude.{slice_get, unwrap_or}
 use Rattle.std.proofs.lemmas.Bool.{false≢true}
-use Rattle.stx_scenario.specs.declared.numbers.ClassNo.{ClassNo}
 use Rattle.stx_scenario.specs.declared.numbers.MethodNo.{MethodNo}
 use Rattle.stx_scenario.specs.declared.scenario.Scenario.{Scenario}
 use Rattle.stx_base.specs.declared.call.Want.{Want}
@@ -10,7 +9,7 @@ use Rattle.stx_base.specs.declared.line.Line.{Line}
 use Rattle.stx_base.specs.Weight.{rank}
 use Rattle.stx_model.specs.Meanings.{State, Result, Over, Stops, Breaks, finally, say}
 use Rattle.stx_model.specs.Rounds.{Way, Proxied}
-use Rattle.stx_model.specs.Script.{invoked, calls_below, invoke, tops, calls_of}
+use Rattle.stx_model.specs.Script.{invoked, calls_below, tops, calls_of}
 use Rattle.stx_model.specs.Statements.{caught}
 use Rattle.stx_machine.specs.Machine.{called, inside, later_calls, tops_from}
 use Rattle.stx_machine.proofs.Places.{drop_at, drop_past}

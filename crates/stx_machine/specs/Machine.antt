@@ -672,8 +672,8 @@ round_if S calls owns round committed st = elim owns [ true ↦ whole_round S ca
 abbrev pub rounds_of : Scenario → Intercepted → Course → Meaning
 rounds_of S call course st =
     finally
-        (finally (round_if S (inside S call.method) call.interception.scope.owns course.round course.committed st) (after_round S call.method call.interception course))
-        (caught S call.catch)
+    (finally (round_if S (inside S call.method) call.interception.scope.owns course.round course.committed st) (after_round S call.method call.interception course))
+    (caught S call.catch)
 
 -- ---- rounds
 
@@ -714,15 +714,15 @@ IsRounding _ = ⊥
 abbrev pub telling_after : Scenario → Telling → Result → Result
 telling_after S t r =
     finally
-        (finally (course_after S (inside S t.call.method) t.course t.todo t.at t.place r) (after_round S t.call.method t.call.interception t.course))
-        (caught S t.call.catch)
+    (finally (course_after S (inside S t.call.method) t.course t.todo t.at t.place r) (after_round S t.call.method t.call.interception t.course))
+    (caught S t.call.catch)
 
 -- what the registrations that are still to be told come to
 abbrev pub tells_on : Scenario → Telling → Meaning
 tells_on S t st =
     finally
-        (finally (tells S (inside S t.call.method) t.course.round t.course.committed (untold t.todo t.at) st) (after_round S t.call.method t.call.interception t.course))
-        (caught S t.call.catch)
+    (finally (tells S (inside S t.call.method) t.course.round t.course.committed (untold t.todo t.at) st) (after_round S t.call.method t.call.interception t.course))
+    (caught S t.call.catch)
 
 -- a round's frame
 abbrev pub round_frame : Telling → Call

@@ -38,7 +38,13 @@ pub(crate) fn next_deed(
     ensures { IfOk result (λ deed. option_map deed_of deed ≡ first_deed (later_deeds setup.now.scenario publication)) }
 {
     let registers = publication.registers;
-    let deeds = on_publish(alloc, &setup.scenario, publication.event, registers, registers)?;
+    let deeds = on_publish(
+        alloc,
+        &setup.scenario,
+        publication.event,
+        registers,
+        registers,
+    )?;
     Ok(next_of(&deeds, publication.after))
 }
 

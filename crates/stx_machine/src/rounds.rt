@@ -67,7 +67,12 @@ fn completion_refused(kind: Kind) -> &'static [Action]
 }
 
 // The actions after a round in which this was thrown or nothing: those that are left, but where a before_commit round threw.
-fn rest_after(kind: Kind, round: Round, rest: &'static [Action], thrown: Option<ClassNo>) -> &'static [Action]
+fn rest_after(
+    kind: Kind,
+    round: Round,
+    rest: &'static [Action],
+    thrown: Option<ClassNo>,
+) -> &'static [Action]
     ensures { result.now ≡ rest_in kind round rest.now thrown }
 {
     match (round, thrown) {
@@ -337,7 +342,12 @@ impl Machine {
             None => self.end_round(call, course, None),
             Some(told) => {
                 let label = told.label;
-                self.say_callback(setup, course.round, status(course.round, course.committed), label);
+                self.say_callback(
+                    setup,
+                    course.round,
+                    status(course.round, course.committed),
+                    label,
+                );
                 self.put_back_round(Telling {
                     call,
                     course,
@@ -372,7 +382,12 @@ impl Machine {
         ensures lines { self.new.lines ≡ self.old.lines }
         ensures left { left self.new ≤ left_after course }
     {
-        let rest = rest_after(call.interception.scope.kind(), course.round, course.rest, thrown);
+        let rest = rest_after(
+            call.interception.scope.kind(),
+            course.round,
+            course.rest,
+            thrown,
+        );
         self.go_on_with(call, rest, thrown.or(course.thrown));
     }
 }

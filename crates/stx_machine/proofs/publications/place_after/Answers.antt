@@ -1,5 +1,5 @@
 -- The deed is here, or further on, or nowhere.
-use Rattle.std.proofs.Common.{◌≡◌, ◌≢◌, ◌∙◌, ◌≤◌, ◌<◌, true, false, drop, length, map, sym, ap, arith, eq-eqb, eqb-true}
+use Rattle.std.proofs.Common.{◌≡◌, ◌∙◌, drop, length, map, sym, ap, arith, eq-eqb, eqb-true}
 use Rattle.stx_events.specs.Deeds.{deed_of}
 use Rattle.stx_machine.specs.Machine.{later_than}
 use Rattle.std.proofs.lemmas.Bool.{false≢true}
@@ -19,6 +19,6 @@ loop-place-preserved c =
     (λ same. false≢true (sym (sym c.eq.ensures ∙ c.if-eq.false) ∙ eq-eqb c.listener_of.result.0 c.args.listener.0 (ap (λ l. l.0) c.listener_of.ensures ∙ sym same)))
 
 pub returns : goal.returns
-returns c = 
+returns c =
     let at_end : c.loop-place.place ≡ length c.args.deeds.now = omega (arith, c.loop-place.auto.place-end, c.loop-place-test.false) in
     c.loop-place.invariant ∙ ap (λ n. later_than c.args.listener (drop n (map deed_of c.args.deeds.now))) at_end ∙ none_after c.args.listener c.args.deeds.now

@@ -1,5 +1,5 @@
 -- The next listener, or the end.
-use Rattle.std.proofs.Common.{◌≡◌, ◌∙◌, None, refl, sym, ap, arith}
+use Rattle.std.proofs.Common.{◌∙◌, None, refl, sym, ap, arith}
 use Rattle.std.specs.Option.{option_map}
 use Rattle.stx_model.specs.Script.{deals}
 use Rattle.stx_events.specs.Deeds.{deed_of}
@@ -21,4 +21,3 @@ pub returns-in-None-clause-moves : goal.returns-in-None-clause-moves
 returns-in-None-clause-moves c =
     let m = c.args.self.now in
     Shrinks refl (omega (arith, over_body c.args.setup.now.scenario (standing_of m.context) (stack m.frames) None c.requires.body c.requires.within.calls))
-

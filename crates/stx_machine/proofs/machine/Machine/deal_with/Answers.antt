@@ -1,19 +1,16 @@
 -- Each way of dealing with a listener.
-use Rattle.std.proofs.Common.{◌≡◌, ◌∙◌, ◌++◌, ◌∷◌, [], List, Option, Some, None, refl, sym, ap, subst, arith}
+use Rattle.std.proofs.Common.{◌∙◌, ◌++◌, ◌∷◌, [], List, Some, sym, ap, subst}
 use Rattle.std.specs.Prelude.{slice_get}
-use Rattle.stx_scenario.specs.declared.numbers.ListenerNo.{ListenerNo}
 use Rattle.stx_base.specs.declared.line.Line.{Line}
-use Rattle.stx_model.specs.Listeners.{Deed, Register, RunNow, Skip}
+use Rattle.stx_model.specs.Listeners.{Register, RunNow, Skip}
 use Rattle.stx_model.specs.Meanings.{Result, State, and_then}
 use Rattle.stx_model.specs.Rounds.{listens}
 use Rattle.stx_model.specs.Script.{deals}
 use Rattle.stx_model.specs.Statements.{register_listener}
 use Rattle.stx_events.specs.Deeds.{deed_of}
-use Rattle.stx_machine.specs.declared.machine.Machine.{Machine}
-use Rattle.stx_machine.specs.Machine.{Says, Shrinks, calls_at, dealt, first_deed, later_calls, later_deeds, publication_of, resume, stack, state_before}
-use Rattle.stx_machine.specs.Sound.{DeedsBelow, rank_at, standing_of}
-use Rattle.stx_machine.proofs.Standings.{over_body}
-use Rattle.stx_machine.proofs.Dealings.{first_none, first_some, later_is, listens_is, run_is}
+use Rattle.stx_machine.specs.Machine.{calls_at, dealt, later_calls, later_deeds, publication_of, resume, stack, state_before}
+use Rattle.stx_machine.specs.Sound.{DeedsBelow, rank_at}
+use Rattle.stx_machine.proofs.Dealings.{first_some, later_is, listens_is, run_is}
 use Rattle.stx_machine.proofs.machine.Machine.deal_with.Goals as goal
 
 pub returns-in-Register-clause-goes : goal.returns-in-Register-clause-goes

@@ -1,5 +1,5 @@
 -- The innermost body goes on, or the client does.
-use Rattle.std.proofs.Common.{◌≡◌, ◌∙◌, ◌∷◌, [], List, Some, refl, sym, ap, subst}
+use Rattle.std.proofs.Common.{◌≡◌, ◌∙◌, ◌∷◌, [], Some, refl, sym, ap, subst}
 use Rattle.std.specs.Prelude.{reverse}
 use Rattle.stx_model.specs.Meanings.{Result, Over}
 use Rattle.stx_frames.specs.declared.frame.Frame.{Frame}

@@ -1,5 +1,5 @@
 -- The next statement of a callback.
-use Rattle.std.proofs.Common.{◌∙◌, ◌+◌, ◌∷◌, sym, ap, subst, arith}
+use Rattle.std.proofs.Common.{◌∙◌, ◌+◌, sym, ap, subst, arith}
 use Rattle.stx_model.specs.Meanings.{finally}
 use Rattle.stx_model.specs.Rounds.{callback_statement}
 use Rattle.stx_model.specs.Statements.{caught}

@@ -1,13 +1,12 @@
 -- The next statement of a listener, or its end.
-use Rattle.std.proofs.Common.{◌≡◌, ◌∙◌, ◌+◌, ◌∷◌, Some, None, false, refl, sym, ap, subst}
+use Rattle.std.proofs.Common.{◌∙◌, ◌+◌, Some, false, refl, sym, ap, subst}
 use Rattle.std.specs.Prelude.{slice_get}
 use Rattle.stx_model.specs.Below.{listener_body}
 use Rattle.stx_model.specs.Meanings.{Result, Over, and_then}
 use Rattle.stx_model.specs.Rounds.{callback_statement}
 use Rattle.stx_model.specs.Script.{deals}
 use Rattle.stx_frames.specs.declared.frame.Frame.{Frame}
-use Rattle.stx_machine.specs.declared.machine.Machine.{Machine}
-use Rattle.stx_machine.specs.Machine.{Says, calls_at, caller_rank, later_calls, later_deeds, now_after, publication_of, resume, stack, state_before}
+use Rattle.stx_machine.specs.Machine.{calls_at, caller_rank, later_calls, later_deeds, now_after, publication_of, resume, stack, state_before}
 use Rattle.stx_machine.specs.Sound.{IsNext, MayCallBack}
 use Rattle.stx_machine.proofs.BodyLaws.{moves_from}
 use Rattle.stx_machine.proofs.RoundLaws.{may_listen, now_ends, now_next}

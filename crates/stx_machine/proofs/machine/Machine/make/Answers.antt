@@ -1,5 +1,5 @@
 -- Each statement of a body.
-use Rattle.std.proofs.Common.{◌≡◌, ◌∙◌, Some, sym, ap, subst}
+use Rattle.std.proofs.Common.{◌∙◌, sym, ap, subst}
 use Rattle.stx_scenario.specs.declared.scenario.Stmt.{Stmt}
 use Rattle.stx_base.specs.Weight.{rank}
 use Rattle.stx_model.specs.Below.{SyncBelow}

@@ -1,5 +1,5 @@
 -- The listeners are to be dealt with.
-use Rattle.std.proofs.Common.{◌≡◌, ◌∙◌, ◌++◌, ◌∷◌, [], List, sym, ap}
+use Rattle.std.proofs.Common.{◌∙◌, List, sym, ap}
 use Rattle.stx_base.specs.declared.line.Line.{Line}
 use Rattle.stx_model.specs.Contexts.{is_active, is_live}
 use Rattle.stx_model.specs.Listeners.{deeds}

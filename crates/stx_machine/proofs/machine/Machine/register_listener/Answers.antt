@@ -1,5 +1,5 @@
 -- The registration is at the end of the list.
-use Rattle.std.proofs.Common.{◌≡◌, ◌∙◌, ◌++◌, ◌∷◌, [], List, Option, Some, None, refl, sym, ap, subst}
+use Rattle.std.proofs.Common.{List, Option, Some, sym, subst}
 use Rattle.std.specs.Option.{option_map}
 use Rattle.stx_model.specs.Contexts.{Registration}
 use Rattle.stx_machine.specs.Machine.{stack}

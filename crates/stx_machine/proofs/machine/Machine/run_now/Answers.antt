@@ -1,5 +1,5 @@
 -- The listener is on top, and its body begins.
-use Rattle.std.proofs.Common.{◌∙◌, ◌++◌, ◌∷◌, [], List, None, sym, ap}
+use Rattle.std.proofs.Common.{◌∙◌, List, None, sym, ap}
 use Rattle.stx_base.specs.declared.line.Line.{Line}
 use Rattle.stx_model.specs.Meanings.{Over, State}
 use Rattle.stx_frames.specs.declared.frame.Frame.{Frame}
