@@ -21,8 +21,14 @@ fn summary_of_all(alloc: Global, value: i64) -> Result<Vec<u8>, NoMemory> {
 #[test]
 fn a_summary_has_the_exact_sum_of_the_accounts(rt: HostRuntime) -> Result<(), Fail> {
     let plain = summary_of_all(rt.alloc(), 1_000)?;
-    assert!(rt; plain.as_slice() == "load seed 7 clients 4\ntop_calls 32\naccounts 16 sum 16000\nend\n".as_bytes());
+    assert!(rt;
+        plain.as_slice()
+            == "load seed 7 clients 4\ntop_calls 32\naccounts 16 sum 16000\nend\n".as_bytes()
+    );
     let greatest = summary_of_all(rt.alloc(), i64::MAX)?;
-    assert!(rt; greatest.as_slice() == "load seed 7 clients 4\ntop_calls 32\naccounts 16 sum 147573952589676412912\nend\n".as_bytes());
+    assert!(rt;
+        greatest.as_slice()
+            == "load seed 7 clients 4\ntop_calls 32\naccounts 16 sum 147573952589676412912\nend\n".as_bytes()
+    );
     Ok(())
 }
