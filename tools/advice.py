@@ -13,7 +13,7 @@ STAGES = {
     2: advice_values.unknown_key, 3: advice_values.missing, 4: advice_values.wrong_type, 5: advice_names.bad_name,
     6: advice_values.out_of_range, 7: advice_values.too_many, 8: advice_names.duplicate, 9: advice_names.bad_word,
     10: advice_names.unknown, 11: advice_graphs.class_cycle, 12: advice_graphs.class_depth, 13: advice_graphs.callback_body,
-    14: advice_graphs.call_cycle, 15: advice_graphs.call_depth, 16: advice_graphs.too_large, 17: advice_graphs.not_yet,
+    14: advice_graphs.call_cycle, 15: advice_graphs.call_depth, 16: advice_graphs.too_large,
 }
 
 

@@ -1,4 +1,4 @@
-"""Advice on trees of classes, callbacks, calls and weight: stages 11 to 17."""
+"""Advice on trees of classes, callbacks, calls and weight: stages 11 to 16."""
 from tools import places, sentences
 from tools.advice_parts import Advice, found, quoted
 from tools.form import DEEPEST, HEAVIEST, listed
@@ -193,17 +193,4 @@ def too_large(document, refused):
         says += f" with {counted(registrations, 'registration')}, and each one counts all of the client's size once more"
     return Advice(
         place, says, f"at most {HEAVIEST} together", f"let client {heavy} make fewer calls, or give some of them to another client or file",
-    )
-
-
-def not_yet(document, refused):
-    steps, node = found(document, refused.argument)
-    parent = places.node_at(document.root, steps[:-1]) if steps else None
-    if node is None and parent is None:
-        return None
-    place = places.value_place(node) if node is not None else places.head_place(document.text, parent)
-    what = quoted(document.text[node.start : node.end]) if node is not None else f"no {steps[-1]}"
-    return Advice(
-        place, f"the scenario is valid, and this form isn't played yet: {what}", "every propagation, and every statement but publish",
-        "./play --do check and --do rules take the scenario; play one without this",
     )

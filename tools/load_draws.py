@@ -1,5 +1,5 @@
 """Works out what the generator of the load draws, from the description in
-crates/stx_load/README.md alone.
+docs/FORMAT.md alone.
 
 `python3 -m tools.load_draws` prints the lines that crates/stx_load/specs/WorkedDraws.antt has for three seeds."""
 

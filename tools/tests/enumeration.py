@@ -3,8 +3,8 @@
 usage: python3 -m tools.tests.enumeration PROGRAM [COUNT [flat]]
 
 plays COUNT scenarios (200) under every schedule by PROGRAM, with and without what --outcomes leaves out, and counts those whose
-outcomes differ. Scenarios with more than MOST schedules are passed over (the stand-in finds them, since it is quicker), and those
-with a form that PROGRAM doesn't play yet. `flat` are those without calls between methods."""
+outcomes differ. Scenarios with more than MOST schedules are passed over (the stand-in finds them, since it is quicker). `flat` are
+those without calls between methods."""
 import random
 import subprocess
 import sys
@@ -16,10 +16,6 @@ from tools.notes import Run
 from tools.tests.stand_in import play
 
 MOST = 500
-
-
-class NotYet(Exception):
-    """The program refuses to play the scenario, and no more than that."""
 
 
 def texts(items):
@@ -101,8 +97,6 @@ def by_program(path):
     def runs(document):
         def run_of(schedule):
             done = subprocess.run([path, "--do", "play"], input=with_schedule(document, schedule), stdout=subprocess.PIPE)
-            if done.stdout.startswith(b"refused 17 NotYet "):
-                raise NotYet
             done.check_returncode()
             return Run(report.read(done.stdout), schedule)
         return run_of
@@ -122,11 +116,7 @@ def differences(count, runs, flat=False):
         seed += 1
         document = Document(scenario(seed, flat).encode(), str(seed))
         run_of = runs(document)
-        try:
-            run_of([])
-            plain = None if enumerated(stand_in(document)) is None else enumerated(run_of)
-        except NotYet:
-            continue
+        plain = None if enumerated(stand_in(document)) is None else enumerated(run_of)
         if plain is None:
             continue
         explorer = explored(run_of, document.scenario().pool)

@@ -10,8 +10,7 @@ from tools.sources import TOP
 from tools.tests import enumeration
 from tools.tests.stand_in import play
 
-STORED = (*(TOP / "examples" / f"{name}.toml" for name in ("withdrawals", "kept", "short_pool")),
-          TOP / "tools" / "tests" / "outcomes" / "lost_listener.toml")
+STORED = tuple(TOP / "examples" / f"{name}.toml" for name in ("withdrawals", "kept", "short_pool", "lost_listener"))
 # A small scenario of enumeration.py, one of whose outcomes comes by a schedule in more than a thousand.
 RARE = 56
 

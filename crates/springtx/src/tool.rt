@@ -1,10 +1,10 @@
 // The tool, over any source and any sink.
-ghost use Rattle.std.specs.Prelude.{◌≡◌, ◌≢◌, ◌⊎◌, List, ℕ, IsTrue, None, Some, IsNone};
+ghost use Rattle.std.specs.Prelude.{◌≡◌, ◌≢◌, ◌⊎◌, IsTrue, false, None, IsNone};
 ghost use Rattle.stx_scenario.specs.declared.limits.TheConstants.{MOST_INPUT_BYTES as MostBytes};
 ghost use Rattle.stx_outside.specs.Streams.{Rose, GainsEnd, GainsPrefix, LosesMore, LosesWithin};
 ghost use Rattle.stx_tool.specs.Ends.{is_status, is_early};
 ghost use Rattle.stx_words.specs.Jobs.{job_of};
-ghost use Rattle.springtx.specs.Tool.{IsAnswered, IsDone, IsRefused, IsCutShort, IsAccepted};
+ghost use Rattle.springtx.specs.Tool.{is_input_needed, IsAnswered, IsDone, IsRefused, IsCutShort, IsAccepted};
 
 use crate::answer::{answer_to, needs_input};
 use std::alloc::Global;
@@ -16,11 +16,11 @@ use stx_tool::{
 };
 use stx_words::{WordsFault, read_words};
 
-/// Does the job that the words state with the scenario that a source holds, and writes its text to a sink. It waits for
-/// nobody.
+/// Does the job that the words state, with the scenario that a source holds or one that is generated, and writes its text to
+/// a sink. It waits for nobody.
 ///
 /// The whole text is made before the first write. The statuses of the end are those of `ToolEnd`.
-#[tactic(auto, using(stx_tool::proofs::InputLaws::none_within, crate::proofs::ToolLaws::all_read))]
+#[tactic(auto, using(stx_tool::proofs::InputLaws::none_within, stx_tool::proofs::InputLaws::all_read, stx_tool::proofs::InputLaws::not_longer))]
 pub fn tool<S: Source, K: Sink>(
     alloc: Global,
     words: &[String],
@@ -36,13 +36,15 @@ pub fn tool<S: Source, K: Sink>(
     // 2: the words state no job.
     ensures usage { result.status ≡ 2 → IsNone (job_of words.now) }
     ensures unstated { IsNone (job_of words.now) → (result.status ≡ 2) ⊎ (result.status ≡ 6) }
-    ensures unread { result.status ≡ 2 → source.new ≡ source.old }
+
+    // No input is read where the words state no job, or one that needs none.
+    ensures unread { is_input_needed words.now ≡ false → source.new ≡ source.old }
 
     // 3: a read failed, and at every other end none did.
     ensures read_fault { result.status ≡ 3 → Rose (S.faults source.old) (S.faults source.new) }
     ensures read_well { result.status ≢ 3 → S.faults source.new ≡ S.faults source.old }
 
-    // 4: the bytes state no valid scenario, or one that isn't played yet.
+    // 4: the bytes state no valid scenario.
     ensures refused { result.status ≡ 4 → IsAnswered words.now (S.left source.old) (S.left source.new)
         (IsRefused (GainsEnd (K.taken sink.old) (K.taken sink.new)) result.report) }
 
@@ -60,7 +62,7 @@ pub fn tool<S: Source, K: Sink>(
     ensures unreported { IsTrue (is_early result.status) → result.report ≡ None }
 
     // What is accepted is done, unless a read or a write failed or memory ran out.
-    ensures complete { (input : List ℕ) → S.left source.old ≡ Some input → IsAccepted words.now input
+    ensures complete { IsAccepted words.now (S.left source.old)
         → ¬ (Rose (S.faults source.old) (S.faults source.new)) → ¬ (Rose (K.faults sink.old) (K.faults sink.new))
         → (result.status ≡ 0) ⊎ (result.status ≡ 6) }
 {

@@ -2,7 +2,6 @@
 #![tactic(auto)]
 
 mod answer;
-mod job;
 mod run_tool;
 
 pub use run_tool::run_tool;

@@ -1,12 +1,12 @@
 // The tool that runs clients on threads, over any source, any sink and any gate.
-ghost use Rattle.std.specs.Prelude.{◌≡◌, ◌≢◌, ◌⊎◌, List, ℕ, IsTrue, None, Some, IsNone};
+ghost use Rattle.std.specs.Prelude.{◌≡◌, ◌≢◌, ◌⊎◌, IsTrue, false, None, IsNone};
 ghost use Rattle.stx_scenario.specs.declared.limits.TheConstants.{MOST_INPUT_BYTES as MostBytes};
 ghost use Rattle.stx_outside.specs.Streams.{Rose, GainsEnd, GainsPrefix, LosesMore, LosesWithin};
 ghost use Rattle.stx_tool.specs.Ends.{is_status, is_early};
-ghost use Rattle.springtx_run.specs.RunTool.{job_of, IsAnswered, IsDone, IsRefused, IsCutShort, IsAccepted};
+ghost use Rattle.stx_words.specs.Jobs.{run_job_of};
+ghost use Rattle.springtx_run.specs.RunTool.{is_input_needed, IsAnswered, IsDone, IsRefused, IsCutShort, IsAccepted};
 
-use crate::answer::answer_to;
-use crate::job::{needs_input, read_job};
+use crate::answer::{answer_to, needs_input};
 use std::alloc::Global;
 use std::sync::Wait;
 use std::thread::Threads;
@@ -17,13 +17,14 @@ use stx_tool::{
     READ_FAULT, Response, TOO_LONG, USAGE, early, read_input, without_memory, write_done,
     write_refused,
 };
-use stx_words::WordsFault;
+use stx_words::{WordsFault, read_run_words};
 
-/// Does the job that the words state with the scenario that a source holds, and writes its text to a sink. The clients run
-/// side by side, each on a thread of its own, and `gate` is asked before and after each of their shared calls. It may wait.
+/// Does the job that the words state, with the scenario that a source holds or one that is generated, and writes its text to
+/// a sink. The clients run side by side, each on a thread of its own, and `gate` is asked before and after each of their
+/// shared calls. It may wait.
 ///
 /// The whole text is made before the first write. The statuses of the end are those of `ToolEnd`.
-#[tactic(auto, using(stx_tool::proofs::InputLaws::none_within, crate::proofs::RunToolLaws::all_read))]
+#[tactic(auto, using(stx_tool::proofs::InputLaws::none_within, stx_tool::proofs::InputLaws::all_read, stx_tool::proofs::InputLaws::not_longer))]
 pub fn run_tool<R: Threads + Wait + Sync, S: Source, K: Sink, G: Gate>(
     rt: &R,
     alloc: Global,
@@ -34,20 +35,23 @@ pub fn run_tool<R: Threads + Wait + Sync, S: Source, K: Sink, G: Gate>(
 ) -> ToolEnd
     ensures status { IsTrue (is_status result.status) }
 
-    // 0: the scenario of all bytes was run. The run is faithful and reported, and its text was written.
+    // 0: the scenario of all bytes, or the generated one, was run. The run is faithful and reported, and the job's text was
+    // written.
     ensures done { result.status ≡ 0 → IsAnswered words.now (S.left source.old) (S.left source.new)
         (IsDone (GainsEnd (K.taken sink.old) (K.taken sink.new)) result.report) }
 
     // 2: the words state no job.
-    ensures usage { result.status ≡ 2 → IsNone (job_of words.now) }
-    ensures unstated { IsNone (job_of words.now) → (result.status ≡ 2) ⊎ (result.status ≡ 6) }
-    ensures unread { result.status ≡ 2 → source.new ≡ source.old }
+    ensures usage { result.status ≡ 2 → IsNone (run_job_of words.now) }
+    ensures unstated { IsNone (run_job_of words.now) → (result.status ≡ 2) ⊎ (result.status ≡ 6) }
+
+    // No input is read where the words state no job, or one that needs none.
+    ensures unread { is_input_needed words.now ≡ false → source.new ≡ source.old }
 
     // 3: a read failed, and at every other end none did.
     ensures read_fault { result.status ≡ 3 → Rose (S.faults source.old) (S.faults source.new) }
     ensures read_well { result.status ≢ 3 → S.faults source.new ≡ S.faults source.old }
 
-    // 4: the bytes state no valid scenario, or one that isn't played yet.
+    // 4: the bytes state no valid scenario.
     ensures refused { result.status ≡ 4 → IsAnswered words.now (S.left source.old) (S.left source.new)
         (IsRefused (GainsEnd (K.taken sink.old) (K.taken sink.new)) result.report) }
 
@@ -65,11 +69,11 @@ pub fn run_tool<R: Threads + Wait + Sync, S: Source, K: Sink, G: Gate>(
     ensures unreported { IsTrue (is_early result.status) → result.report ≡ None }
 
     // What is accepted is done, unless a read or a write failed or memory ran out.
-    ensures complete { (input : List ℕ) → S.left source.old ≡ Some input → IsAccepted words.now input
+    ensures complete { IsAccepted words.now (S.left source.old)
         → ¬ (Rose (S.faults source.old) (S.faults source.new)) → ¬ (Rose (K.faults sink.old) (K.faults sink.new))
         → (result.status ≡ 0) ⊎ (result.status ≡ 6) }
 {
-    let job = match read_job(alloc, words) {
+    let job = match read_run_words(alloc, words) {
         Ok(job) => job,
         Err(WordsFault::Usage) => return early(USAGE),
         Err(WordsFault::NoMemory(refused)) => return without_memory(refused),

@@ -63,6 +63,7 @@ is_going S (Stage.Over x) carried calls fits = refl
 is_going S (Stage.Opening m catch) carried calls fits = refl
 is_going S Stage.Completing carried calls fits = refl
 is_going S Stage.Rounding carried calls fits = refl
+is_going S (Stage.Dealing publication) carried calls fits = refl
 is_going S Stage.Resuming carried calls fits = refl
 is_going S (Stage.Pointing t) carried calls fits = refl
 is_going S (Stage.GoingBack t) carried calls fits = refl
@@ -153,6 +154,7 @@ wants_one (Stage.Accessing (Place.Connection c) a d) w is waits ok done take giv
 wants_one (Stage.Returning c x) w is waits ok done take give begin access auto point back release commit rollback = give c is
 wants_one Stage.Taking w is waits ok done take give begin access auto point back release commit rollback = take is
 wants_one (Stage.Beginning c) w is waits ok done take give begin access auto point back release commit rollback = begin is
+wants_one (Stage.Dealing publication) w is waits ok done take give begin access auto point back release commit rollback = cc
 wants_one Stage.Rounding w is waits ok done take give begin access auto point back release commit rollback = cc
 wants_one Stage.Resuming w is waits ok done take give begin access auto point back release commit rollback = cc
 wants_one (Stage.Pointing t) w is waits ok done take give begin access auto point back release commit rollback = point t is

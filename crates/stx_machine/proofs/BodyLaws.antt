@@ -1,5 +1,5 @@
 -- A body at a place: its next statement, or its end.
-use Rattle.std.proofs.Common.{◌≡◌, ◌⊎◌, ◌==◌, inl, inr, get_or, ℕ, ◌+◌, ◌<◌, ◌≤◌, Bool, true, false, ◌&&◌, List, [], ◌∷◌, drop, length, Option, Some, None, refl, sym, ap, ◌∙◌, subst, arith}
+use Rattle.std.proofs.Common.{◌≡◌, ◌⊎◌, ◌==◌, inl, inr, get_or, ℕ, ◌+◌, ◌<◌, ◌≤◌, true, false, length, Option, Some, None, refl, sym, ap, ◌∙◌, subst, arith}
 use Rattle.std.specs.Prelude.{slice_get}
 use Rattle.std.specs.Option.{option_map_or}
 use Rattle.std.proofs.lemmas.Bool.{false≢true, and_parts, ltb-true}
@@ -12,18 +12,16 @@ use Rattle.stx_scenario.specs.declared.scenario.Scenario.{Scenario}
 use Rattle.stx_scenario.specs.declared.scenario.Stmt.{Stmt}
 use Rattle.stx_base.specs.Valid.{is_catch, is_own_method, names_known, own_known}
 use Rattle.stx_base.specs.Weight.{body_of, rank}
-use Rattle.stx_model.specs.Meanings.{State, Result, Over, and_then, finally}
+use Rattle.stx_model.specs.Meanings.{State, Over, and_then, finally}
 use Rattle.stx_model.specs.Scopes.{leaves, ends}
 use Rattle.stx_model.specs.Script.{statement, body}
 use Rattle.stx_model.specs.Below.{StatementBelow}
 use Rattle.stx_machine.specs.declared.interception.Interception.{Interception}
-use Rattle.stx_machine.specs.declared.interception.Phase.{Phase}
 use Rattle.stx_machine.specs.declared.machine.Machine.{Machine}
-use Rattle.stx_machine.specs.Machine.{IsClass, IsLonger, Moves, Says, Waits, Shrinks, attribute_of, call_after, inside, phase_after, scope_of, statements}
-use Rattle.stx_model.specs.Built.{is_built}
+use Rattle.stx_machine.specs.Machine.{IsClass, Moves, Says, Waits, Shrinks, attribute_of, call_after, inside, phase_after, scope_of, statements}
 use Rattle.stx_model.specs.Playable.{IsPlayable}
-use Rattle.stx_machine.specs.Sound.{Standing, IsCall, IsNext, MayMake, ScopeRuns}
-use Rattle.stx_machine.proofs.Places.{body_is, built_at, known_at, own_at, below_at, few_statements, drop_at, drop_past}
+use Rattle.stx_machine.specs.Sound.{Standing, IsNext, MayMake, ScopeRuns}
+use Rattle.stx_machine.proofs.Places.{body_is, known_at, own_at, below_at, few_statements, drop_at, drop_past}
 use Rattle.stx_machine.proofs.Stacks.{runs_only}
 
 -- ---- what a body may do
@@ -39,19 +37,19 @@ own_method S bean m own = by_place (slice_get_cases S.methods m.0).1
     by_place (inl (x, less, there, same)) = less
     by_place (inr (past, none)) = absurd (false≢true (ap (λ o. option_map_or (λ z. z.bean.0 == bean.0) o false) (sym none) ∙ own))
 
-may : (S : Scenario) (bean : BeanNo) (m : MethodNo) (s : Stmt) → is_built s ≡ true → names_known S s ≡ true → own_known S bean s ≡ true → StatementBelow S (rank S m) s → MayMake S m s
-may S bean m (Stmt.Read k) built known own below = tt
-may S bean m (Stmt.Write k v) built known own below = tt
-may S bean m (Stmt.Erase k) built known own below = tt
-may S bean m (Stmt.Add k v) built known own below = tt
-may S bean m (Stmt.Need k v) built known own below = tt
-may S bean m (Stmt.Call n catch) built known own below =
+may : (S : Scenario) (bean : BeanNo) (m : MethodNo) (s : Stmt) → names_known S s ≡ true → own_known S bean s ≡ true → StatementBelow S (rank S m) s → MayMake S m s
+may S bean m (Stmt.Read k) known own below = tt
+may S bean m (Stmt.Write k v) known own below = tt
+may S bean m (Stmt.Erase k) known own below = tt
+may S bean m (Stmt.Add k v) known own below = tt
+may S bean m (Stmt.Need k v) known own below = tt
+may S bean m (Stmt.Call n catch) known own below =
     let (method, rest) = and_parts _ _ known in record { method = ltb-true n.0 (length S.methods) method; class = catch_known S catch rest; low = below }
-may S bean m (Stmt.This n catch) built known own below = record { method = own_method S bean n own; class = catch_known S catch known; low = below }
-may S bean m (Stmt.Throw x) built known own below = ltb-true x.0 (length S.classes) known
-may S bean m Stmt.Mark built known own below = tt
-may S bean m (Stmt.Publish e) built known own below = absurd (false≢true built)
-may S bean m (Stmt.Register r) built known own below = below
+may S bean m (Stmt.This n catch) known own below = record { method = own_method S bean n own; class = catch_known S catch known; low = below }
+may S bean m (Stmt.Throw x) known own below = ltb-true x.0 (length S.classes) known
+may S bean m Stmt.Mark known own below = tt
+may S bean m (Stmt.Publish e) known own below = below
+may S bean m (Stmt.Register r) known own below = below
 
 -- each statement of a method is one that its body may do
 pub may_at : (S : Scenario) (m : MethodNo) (place : ℕ) (s : Stmt) → IsPlayable S → m.0 < length S.methods → slice_get (body_of S m) place ≡ Some s → MayMake S m s
@@ -60,7 +58,7 @@ may_at S m place s playable less here = by_place (slice_get_cases S.methods m.0)
     by_place : ((x : Method) × (m.0 < length S.methods) × (slice_get S.methods m.0 ≡ Some x) × (get_or S.methods m.0 x ≡ x)) ⊎ ((length S.methods ≤ m.0) × (slice_get S.methods m.0 ≡ None)) → MayMake S m s
     by_place (inl (x, below, there, same)) =
         let at : slice_get x.body place ≡ Some s = ap (λ b. slice_get b place) (sym (body_is S m x there)) ∙ here in
-        may S x.bean m s (built_at S m x there playable place s at) (known_at S m x there playable place s at) (own_at S m x there playable place s at) (below_at S m x there playable place s at)
+        may S x.bean m s (known_at S m x there playable place s at) (own_at S m x there playable place s at) (below_at S m x there playable place s at)
     by_place (inr (past, none)) = absurd (omega (arith, past, less))
 
 pub few_at : (S : Scenario) (m : MethodNo) (place : ℕ) (s : Stmt) → IsPlayable S → m.0 < length S.methods → slice_get (body_of S m) place ≡ Some s → place < 256

@@ -1,5 +1,5 @@
 -- The end of a scope: which actions are due, before and after each round.
-use Rattle.std.proofs.Common.{◌≡◌, ℕ, zero, suc, Bool, true, false, List, [], ◌∷◌, Option, Some, None, refl, sym, ap, ◌∙◌, subst}
+use Rattle.std.proofs.Common.{◌≡◌, ℕ, zero, suc, Bool, true, false, List, [], ◌∷◌, Option, Some, None, refl, sym, ap, ◌∙◌}
 use Rattle.std.specs.Prelude.{◌||◌, ◌&&◌, not, ⊤}
 use Rattle.std.specs.Option.{is_some}
 use Rattle.std.proofs.lemmas.Bool.{false≢true, and_parts}
@@ -9,14 +9,14 @@ use Rattle.stx_base.specs.declared.manager.Action.{Action}
 use Rattle.stx_base.specs.declared.manager.Ending.{Ending}
 use Rattle.stx_base.specs.declared.manager.Kind.{Kind}
 use Rattle.stx_base.specs.declared.manager.Round.{Round}
-use Rattle.stx_model.specs.Contexts.{Context, Live, Registration, ordered, registered, without_syncs}
-use Rattle.stx_model.specs.Ending.{ending, completion, completion_after, completion_refused, has_before_commit, is_marked}
+use Rattle.stx_model.specs.Contexts.{Context, Registration, ordered, registered, without_syncs}
+use Rattle.stx_model.specs.Ending.{ending, completion, completion_after, completion_refused, has_before_commit}
 use Rattle.stx_model.specs.Meanings.{State, Result, Over, Stops, Breaks, Meaning, finally, with_context}
 use Rattle.stx_model.specs.Rounds.{Calls, last_round, round_of, stopping_round, swallowing_round, swallows, told}
 use Rattle.stx_model.specs.Scopes.{Scope, acts, completes, later_or}
 use Rattle.stx_manager.specs.Scopes.{OpenScope}
 use Rattle.stx_machine.specs.Machine.{rest_after, round_if}
-use Rattle.stx_machine.specs.Sound.{Bond, Unbound, Runs, Ended, Standing, below_rest, below_scope, due_after, due_in, due_told, ends_syncs, has_own, has_own_of, has_point, is_due, is_point, is_unbound, may_end, releases, standing_under, without_own}
+use Rattle.stx_machine.specs.Sound.{Bond, Unbound, Runs, Ended, Standing, below_rest, below_scope, due_after, due_in, ends_syncs, has_own, has_own_of, has_point, is_due, is_point, is_unbound, may_end, releases, standing_under, without_own}
 
 -- ---- how a scope may end
 

@@ -1,7 +1,7 @@
 -- What is left of a script begins with the lines that were said; and where a machine waits for a shared call, it stops there.
 use Rattle.std.proofs.Common.{◌≡◌, ◌∙◌, ◌+◌, ◌-◌, ◌==◌, ◌<◌, ◌≤◌, ◌∷◌, [], ℕ, Bool, true, false, List, length, Option, Some, None, refl, sym, ap, arith, eq-eqb, eqb-true, length-append}
 use Rattle.std.proofs.lemmas.Bool.{false≢true}
-use Rattle.std.specs.Prelude.{drop, unwrap_or}
+use Rattle.std.specs.Prelude.{drop, slice_get, unwrap_or}
 use Rattle.std.specs.Option.{option_map}
 use Rattle.stx_scenario.specs.declared.numbers.ClassNo.{ClassNo}
 use Rattle.stx_scenario.specs.declared.numbers.MethodNo.{MethodNo}
@@ -24,10 +24,11 @@ use Rattle.stx_model.specs.Opening.{opening}
 use Rattle.stx_model.specs.Reads.{StartsWith}
 use Rattle.stx_model.specs.Rounds.{Calls, callback, swallows}
 use Rattle.stx_model.specs.Scopes.{acts, begins, ends, later_or, leaves, say_each}
-use Rattle.stx_model.specs.Script.{calls_of, tops}
+use Rattle.stx_model.specs.Below.{listener_body}
+use Rattle.stx_model.specs.Script.{calls_of, deals, tops}
 use Rattle.stx_model.specs.Statements.{RowAccess, caught, concludes, unless_busy}
 use Rattle.stx_model.proofs.Steady.{IsSteady, after_change, either_steady, say_steady, over_steady, breaks_steady, finally_steady, and_then_steady, ask_steady, on_take_steady, unasked}
-use Rattle.stx_model.proofs.SteadyPieces.{AreSteady, in_fresh, throws_steady, concludes_steady, caught_steady, access_steady, needed_steady, added_steady, leaves_steady, acts_steady, ends_steady, begins_steady, opens_steady, body_steady, calls_below_steady, done_steady, tops_steady, callback_steady, stopping_steady, swallowing_steady, swallows_change, say_each_change, within_steady}
+use Rattle.stx_model.proofs.SteadyPieces.{AreSteady, in_fresh, throws_steady, concludes_steady, caught_steady, access_steady, needed_steady, added_steady, leaves_steady, acts_steady, ends_steady, begins_steady, opens_steady, body_steady, calls_below_steady, done_steady, tops_steady, callback_steady, deals_steady, stopping_steady, swallowing_steady, swallows_change, say_each_change, within_steady}
 use Rattle.stx_context.specs.Carrying.{Carried, context_of}
 use Rattle.stx_frames.specs.declared.frame.Frame.{Frame}
 use Rattle.stx_sync.specs.declared.registered.Registered.{Registered}
@@ -39,7 +40,7 @@ use Rattle.stx_machine.specs.declared.stage.Place.{Place}
 use Rattle.stx_machine.specs.declared.stage.Stage.{Stage}
 use Rattle.stx_machine.specs.declared.stage.Then.{Then}
 use Rattle.stx_machine.specs.declared.tokens.Tokens.{Tokens}
-use Rattle.stx_machine.specs.Machine.{Call, Goes, Moves, Says, Waits, Shrinks, accesses, attribute_of, begun, after_round, call_after, completes, connects, course_after, does, falls, frame_after, has_failed, in_round, inside, last_told, later_calls, left, of_call, of_top, opened, phase_after, piece, pointed, rest_after, rest_of, resume, resumes_call, round_after, rounds_call, row_access, run, scope_of, stack, state_at, statements, stops, tells, tells_resumed, thrown_of, told_after, untold, want_at, want_of, whole_round}
+use Rattle.stx_machine.specs.Machine.{Call, Goes, Moves, Says, Waits, Shrinks, accesses, attribute_of, begun, after_round, call_after, caller_rank, calls_at, completes, connects, course_after, does, falls, frame_after, has_failed, in_round, inside, last_told, later_calls, later_deeds, left, of_call, of_top, opened, phase_after, piece, pointed, publication_of, rest_after, rest_of, resume, resumes_call, round_after, rounds_call, row_access, run, scope_of, stack, state_at, statements, stops, tells, tells_resumed, thrown_of, told_after, untold, want_at, want_of, whole_round}
 use Rattle.stx_machine.specs.Sound.{CallCompletes, CallOpens, CallPoints, IsSound, Standing, StageFits, standing_of}
 
 -- ---- accesses
@@ -154,7 +155,13 @@ module _ (S : Scenario) (first : Meaning) (steady : IsSteady first) where
   frame_steady fs (Frame.Body m place catch scope) =
       finally_steady (λ st. call_after S m place scope (first st)) (caught S catch) (call_steady m place scope) (caught_steady S catch)
   frame_steady fs (Frame.Round round todo at place x) = below_steady todo at place fs
-  frame_steady fs (Frame.Now listener place) = steady
+  frame_steady fs (Frame.Now listener place) =
+      let calls = calls_at S fs in
+      let body = drop place (listener_body (slice_get S.listeners listener.0)) in
+      let rest = later_deeds S (publication_of S listener) in
+      and_then_steady (λ st. and_then (first st) (callback S calls body)) (deals S calls rest)
+      (and_then_steady first (callback S calls body) steady (callback_steady S calls (calls_below_steady S (caller_rank S fs)) body))
+      (deals_steady S calls (calls_below_steady S (caller_rank S fs)) rest)
 
 resume_steady : (S : Scenario) (fs : List Call) (first : Meaning) → IsSteady first → IsSteady (λ st. resume S fs (first st))
 unfolding resume
@@ -216,6 +223,7 @@ piece_steady S fs (Stage.Over x) = over_steady x
 piece_steady S fs (Stage.Opening m catch) = finally_steady (opened S m) (caught S catch) (opened_steady S m) (caught_steady S catch)
 piece_steady S fs (Stage.Connecting a d) = ask_steady Want.Take (on_take (connects a d)) (on_take_steady (connects a d) (connects_steady a d))
 piece_steady S fs (Stage.Accessing place a d) = accesses_steady place a d
+piece_steady S fs (Stage.Dealing publication) = deals_steady S (calls_at S fs) (calls_below_steady S (caller_rank S fs)) (later_deeds S publication)
 piece_steady S fs (Stage.Returning c x) = ask_steady (Want.Give c) (λ _. concludes x) (λ n. concludes_steady x)
 piece_steady S fs stage = of_top_steady S fs stage
 
@@ -330,6 +338,7 @@ module _ (S : Scenario) (lines : List Line) (context : Context) (local : Option 
   piece_stops fs (Stage.Opening m catch) carried fits waits going = cc
   piece_stops fs Stage.Completing carried fits waits going = cc
   piece_stops fs Stage.Rounding carried fits waits going = cc
+  piece_stops fs (Stage.Dealing publication) carried fits waits going = cc
   piece_stops fs Stage.Resuming carried fits waits going = cc
   piece_stops fs (Stage.Connecting a d) carried fits waits going = unasked Want.Take (on_take (connects a d)) (still lines context local) refl
   piece_stops fs (Stage.Accessing place a d) carried fits waits going = accesses_stops place a d

@@ -1,5 +1,5 @@
 -- What the innermost piece does with the note that it was waiting for.
-use Rattle.std.proofs.Common.{◌≡◌, ℕ, ◌++◌, ◌∷◌, [], Bool, true, false, List, Option, Some, None, refl, sym, ap, ◌∙◌, subst}
+use Rattle.std.proofs.Common.{◌≡◌, ℕ, ◌++◌, ◌∷◌, [], Bool, true, false, List, Option, Some, None, refl, sym, ap, ◌∙◌}
 use Rattle.std.specs.Prelude.{IsSome}
 use Rattle.std.specs.Option.{option_map}
 use Rattle.std.proofs.lemmas.Bool.{false≢true}
@@ -15,14 +15,13 @@ use Rattle.stx_base.specs.declared.line.Line.{Line}
 use Rattle.stx_base.specs.declared.manager.Action.{Action}
 use Rattle.stx_base.specs.Notes.{pool_answers, pool_line, store_answers, store_line}
 use Rattle.stx_model.specs.Contexts.{Context, with_global_mark}
-use Rattle.stx_model.specs.Meanings.{State, Result, Meaning, ask, on_access, with_context, with_local}
+use Rattle.stx_model.specs.Meanings.{State, Meaning, ask, on_access, with_context, with_local}
 use Rattle.stx_model.specs.Rounds.{Calls}
 use Rattle.stx_model.specs.Scopes.{Scope, acts, begins, leaves, resumed}
 use Rattle.stx_model.specs.Statements.{concludes, unless_busy}
 use Rattle.stx_model.proofs.Steady.{asked}
 use Rattle.stx_context.specs.Carrying.{Carried, context_of}
 use Rattle.stx_frames.specs.declared.frame.Frame.{Frame}
-use Rattle.stx_machine.specs.declared.interception.Interception.{Interception}
 use Rattle.stx_machine.specs.declared.machine.Machine.{Machine}
 use Rattle.stx_machine.specs.declared.stage.Bound.{Bound}
 use Rattle.stx_machine.specs.declared.stage.Place.{Place}

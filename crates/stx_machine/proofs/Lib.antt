@@ -7,6 +7,7 @@ pub mod OpeningLaws
 pub mod Endings
 pub mod RowLaws
 pub mod Growth
+pub mod Dealings
 pub mod Registering
 pub mod Telling
 pub mod RoundLaws

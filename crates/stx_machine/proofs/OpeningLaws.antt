@@ -1,5 +1,5 @@
 -- What the table of openings tells of the context.
-use Rattle.std.proofs.Common.{◌≡◌, ◌<◌, ◌≤◌, ◌∷◌, ◌++◌, [], Bool, true, false, List, Option, Some, None, refl, sym, ap, ◌∙◌, subst, arith, length}
+use Rattle.std.proofs.Common.{◌≡◌, ◌<◌, [], Bool, true, false, List, Option, Some, None, refl, sym, ap, ◌∙◌, subst, arith}
 use Rattle.std.specs.Prelude.{IsSome}
 use Rattle.std.specs.Option.{is_some, option_map}
 use Rattle.stx_conn.specs.Bindings.{Binding, live}
@@ -11,8 +11,6 @@ use Rattle.stx_scenario.specs.declared.scenario.Settings.{Settings}
 use Rattle.stx_scenario.specs.declared.scenario.SyncMode.{SyncMode}
 use Rattle.stx_scenario.specs.declared.scenario.TxAttr.{TxAttr}
 use Rattle.stx_base.specs.declared.manager.Opening.{Opening}
-use Rattle.stx_base.specs.declared.history.PoolNote.{PoolNote}
-use Rattle.stx_base.specs.declared.history.StoreNote.{StoreNote}
 use Rattle.stx_scenario.specs.declared.numbers.MethodNo.{MethodNo}
 use Rattle.stx_scenario.specs.declared.scenario.Scenario.{Scenario}
 use Rattle.stx_machine.specs.declared.stage.Stage.{Stage}

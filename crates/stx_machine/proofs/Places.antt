@@ -1,13 +1,12 @@
 -- Lists by place, and what is known of a method, of its statements and of a client's calls in a playable scenario.
 use Rattle.std.proofs.Common.{◌≡◌, ℕ, zero, suc, ◌+◌, ◌<◌, ◌≤◌, true, List, [], ◌∷◌, drop, length, Option, Some, None, refl, sym, ap, ◌∙◌, subst, arith, add-one}
-use Rattle.std.specs.Prelude.{min, false, slice_get, unwrap_or, IfSome}
-use Rattle.std.specs.Option.{option_and_then}
+use Rattle.std.specs.Prelude.{min, slice_get, unwrap_or, IfSome}
 use Rattle.std.proofs.lemmas.List.{length-take}
 use Rattle.stx_scenario.specs.declared.numbers.ClassNo.{ClassNo}
 use Rattle.stx_scenario.specs.declared.scenario.TxAttr.{TxAttr}
 use Rattle.stx_scenario.specs.BuiltIn.{built_in}
-use Rattle.stx_base.specs.Attributes.{attribute, method_attribute}
-use Rattle.std.specs.List.{AllByRecursion, AllPass}
+use Rattle.stx_base.specs.Attributes.{attribute}
+use Rattle.std.specs.List.{AllByRecursion}
 use Rattle.std.proofs.lemmas.Option.{slice_get_within}
 use Rattle.stx_scenario.specs.declared.numbers.MethodNo.{MethodNo}
 use Rattle.stx_scenario.specs.declared.scenario.Method.{Method}
@@ -18,7 +17,6 @@ use Rattle.stx_base.specs.Valid.{names_known, own_known, MethodInOrder, CallsInO
 use Rattle.stx_base.specs.Weight.{body_in, body_of, rank}
 use Rattle.stx_base.proofs.ValidLaws.{entry_of, HasFewRules, few_rules}
 use Rattle.stx_machine.specs.Machine.{attribute_of, default_attribute}
-use Rattle.stx_model.specs.Built.{is_built}
 use Rattle.stx_model.specs.Playable.{IsPlayable}
 use Rattle.stx_model.specs.Below.{StatementBelow, StatementsBelow}
 use Rattle.stx_model.proofs.CallableLaw.{callable_if_valid}
@@ -60,9 +58,6 @@ module _ (S : Scenario) (m : MethodNo) (method : Method) (there : slice_get S.me
     few_statements = in_order.body.few
 
     module _ (place : ℕ) (s : Stmt) (here : slice_get method.body place ≡ Some s) where
-      pub built_at : is_built s ≡ true
-      built_at = entry_of (λ s. is_built s ≡ true) method.body place s (entry_of (λ (method : Method). AllPass is_built method.body) S.methods m.0 method playable.built.methods there) here
-
       pub known_at : names_known S s ≡ true
       known_at = entry_of (λ s. names_known S s ≡ true) method.body place s in_order.body.known here
 

@@ -1,5 +1,5 @@
 -- What the calls under way rely on, where one registration more is made.
-use Rattle.std.proofs.Common.{◌≡◌, ◌++◌, ◌∷◌, [], ◌<◌, ◌≤◌, Bool, true, false, List, Option, Some, None, refl, sym, ap, subst, arith}
+use Rattle.std.proofs.Common.{◌≡◌, ◌++◌, ◌∷◌, [], Bool, true, false, List, Option, Some, None, ap, arith}
 use Rattle.std.specs.Prelude.{◌&&◌}
 use Rattle.stx_scenario.specs.declared.numbers.MethodNo.{MethodNo}
 use Rattle.stx_scenario.specs.declared.scenario.Scenario.{Scenario}
@@ -14,8 +14,8 @@ use Rattle.stx_frames.specs.declared.frame.Frame.{Frame}
 use Rattle.stx_manager.specs.Scopes.{OpenScope}
 use Rattle.stx_machine.specs.declared.interception.Interception.{Interception}
 use Rattle.stx_machine.specs.declared.interception.Phase.{Phase}
-use Rattle.stx_machine.specs.Machine.{Call}
-use Rattle.stx_machine.specs.Sound.{Bond, CallsRun, IsIntercepted, RoundsIn, RunsIn, Shelters, Standing, below_phase, below_scope, caller_rank, due_told, ends_after, has_own_of, is_point, nothing, one_less, owns_in, releases, standing_under, without_own}
+use Rattle.stx_machine.specs.Machine.{Call, caller_rank}
+use Rattle.stx_machine.specs.Sound.{Bond, CallsRun, IsIntercepted, RoundsIn, RunsIn, Shelters, Standing, below_phase, due_told, ends_after, has_own_of, is_point, nothing, one_less, owns_in, releases, standing_under, without_own}
 
 module _ (S : Scenario) (r : Registration) where
   -- with these registrations
@@ -85,15 +85,21 @@ registers_run S r (Frame.Body m place catch None ∷ fs) below bond list calls =
     let higher = label_raise S (rank S m) (caller_rank S fs) (omega (arith, calls.0.low)) r.label below in
     (calls.0, calls.1, registers_run S r fs higher bond list calls.2)
 registers_run S r (Frame.Body m place catch (Some i) ∷ fs) below bond list calls =
-    let higher = label_raise S (rank S m) (caller_rank S fs) (omega (arith, calls.0.low)) r.label below in
-    (calls.0, (intercepted S r m below i.scope.owns list calls.1.0, runs S r i bond list i.phase calls.1.1),
-     under S r fs (λ b l. registers_run S r fs higher b l) i.scope.suspended (is_point i.scope.kind) i.scope.owns bond list calls.2)
+    let higher = label_raise S (rank S m) (caller_rank S fs) (omega (arith, calls.0.low)) r.label below in (
+      calls.0,
+      (intercepted S r m below i.scope.owns list calls.1.0, runs S r i bond list i.phase calls.1.1),
+      under S r fs (λ b l. registers_run S r fs higher b l) i.scope.suspended (is_point i.scope.kind) i.scope.owns bond list calls.2,
+    )
 registers_run S r (Frame.Round round todo at_ place x ∷ Frame.Body m statement catch (Some i) ∷ fs) below bond list calls =
-    let higher = label_raise S (rank S m) (caller_rank S fs) (omega (arith, calls.0.low)) r.label below in
-    (calls.0, intercepted S r m below (owns_in i.scope i.phase) list calls.1, rounds S r i bond list i.phase calls.2, calls.3,
-     under_phase S r fs (λ b l. registers_run S r fs higher b l) i.scope bond list i.phase calls.2 calls.4)
+    let higher = label_raise S (rank S m) (caller_rank S fs) (omega (arith, calls.0.low)) r.label below in (
+      calls.0,
+      intercepted S r m below (owns_in i.scope i.phase) list calls.1,
+      rounds S r i bond list i.phase calls.2,
+      calls.3,
+      under_phase S r fs (λ b l. registers_run S r fs higher b l) i.scope bond list i.phase calls.2 calls.4,
+    )
 registers_run S r (Frame.Round round todo at_ place x ∷ Frame.Body m statement catch None ∷ fs) below bond list calls = absurd calls
 registers_run S r (Frame.Round round todo at_ place x ∷ Frame.Round other rest told statement y ∷ fs) below bond list calls = absurd calls
 registers_run S r (Frame.Round round todo at_ place x ∷ Frame.Now listener statement ∷ fs) below bond list calls = absurd calls
 registers_run S r (Frame.Round round todo at_ place x ∷ []) below bond list calls = absurd calls
-registers_run S r (Frame.Now listener place ∷ fs) below bond list calls = absurd calls
+registers_run S r (Frame.Now listener place ∷ fs) below bond list calls = (calls.0, calls.1, calls.2, registers_run S r fs below bond list calls.3)

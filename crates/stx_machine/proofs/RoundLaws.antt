@@ -1,5 +1,5 @@
 -- Rounds and callbacks, one after the other.
-use Rattle.std.proofs.Common.{◌≡◌, ℕ, zero, suc, ◌+◌, ◌-◌, ◌*◌, ◌^◌, ◌<◌, ◌≤◌, Bool, true, false, List, [], ◌∷◌, drop, length, map, Option, Some, None, refl, sym, ap, ◌∙◌, subst, arith, add-one}
+use Rattle.std.proofs.Common.{◌≡◌, ℕ, zero, suc, ◌+◌, ◌*◌, ◌^◌, ◌<◌, ◌≤◌, Bool, true, false, List, [], ◌∷◌, drop, length, map, Option, Some, None, refl, sym, ap, ◌∙◌, subst, arith, add-one}
 use Rattle.std.specs.Prelude.{◌&&◌, not, slice_get}
 use Rattle.std.specs.Option.{is_some, option_map_or, option_or}
 use Rattle.std.proofs.lemmas.Option.{slice_get_within}
@@ -29,7 +29,7 @@ use Rattle.stx_model.specs.Ending.{completion, completion_refused}
 use Rattle.stx_model.specs.Listeners.{runs_in}
 use Rattle.stx_model.specs.Meanings.{State, Result, Over, and_then, say, with_context}
 use Rattle.stx_model.specs.Playable.{IsPlayable}
-use Rattle.stx_model.specs.Script.{statement}
+use Rattle.stx_model.specs.Script.{deals, statement}
 use Rattle.stx_model.specs.Rounds.{Calls, callback, callback_line, callback_statement, called_back, listens_in, stopping_round, swallowing_round, sync_body, told}
 use Rattle.stx_context.specs.Carrying.{Carried, context_of}
 use Rattle.stx_manager.specs.Scopes.{OpenScope}
@@ -42,8 +42,8 @@ use Rattle.stx_machine.specs.declared.rounds.Telling.{Telling}
 use Rattle.stx_machine.specs.declared.interception.Phase.{Phase}
 use Rattle.stx_machine.specs.declared.stage.Stage.{Stage}
 use Rattle.stx_machine.specs.declared.stage.Then.{Then}
-use Rattle.stx_machine.specs.Machine.{AreTold, IsClass, IsToldOn, access_in, course_after, later_calls, put_back, round_frame, row_in, run, state_before, whole_round, begins_callback, callback_of, last_told, left_round, listener_callback, listener_runs, rest_after, resume, stack, status, stops, telling_after, tells, told_after, untold}
-use Rattle.stx_machine.specs.Sound.{CallsRun, IsApart, IsAtRound, IsCall, IsNext, IsTold, IsTelling, IsWithin, MayCallBack, Shelters, Standing, below_rest, below_round, bond_of, caller_rank, due_after, due_in, due_told, ends_after, ends_syncs, is_due, no_tokens, rank_at, releases, standing_of, standing_under, without_own}
+use Rattle.stx_machine.specs.Machine.{AreTold, IsClass, IsToldOn, access_in, course_after, later_calls, put_back, round_frame, row_in, run, state_before, whole_round, begins_callback, callback_of, last_told, left_round, listener_callback, listener_runs, rest_after, resume, stack, status, stops, telling_after, tells, told_after, untold, caller_rank, later_deeds, now_after, publication_of}
+use Rattle.stx_machine.specs.Sound.{CallsRun, IsApart, IsAtRound, IsCall, IsNext, IsTold, IsTelling, IsWithin, MayCallBack, Shelters, Standing, below_rest, below_round, bond_of, due_after, due_in, due_told, ends_after, ends_syncs, is_due, no_tokens, rank_at, releases, standing_of, standing_under, without_own}
 use Rattle.stx_machine.proofs.Endings.{refused_releases, refused_ends}
 use Rattle.stx_model.proofs.Callable.{by_order_all}
 use Rattle.stx_machine.proofs.RowLaws.{row_is}
@@ -291,23 +291,23 @@ caught_known : (S : Scenario) (catch : Option ClassNo) → is_catch S catch ≡ 
 caught_known S None known = tt
 caught_known S (Some x) known = ltb-true x.0 (length S.classes) known
 
-may_call : (S : Scenario) (m : MethodNo) (s : Stmt) → names_known S s ≡ true → CallbackBelow S (rank S m) s → MayCallBack S m s
-may_call S m (Stmt.Read k) known below = tt
-may_call S m (Stmt.Write k v) known below = tt
-may_call S m (Stmt.Erase k) known below = tt
-may_call S m (Stmt.Add k v) known below = tt
-may_call S m (Stmt.Need k v) known below = tt
-may_call S m (Stmt.Call n catch) known below =
+pub may_call : (S : Scenario) (k : ℕ) (s : Stmt) → names_known S s ≡ true → CallbackBelow S k s → MayCallBack S k s
+may_call S k (Stmt.Read row) known below = tt
+may_call S k (Stmt.Write row v) known below = tt
+may_call S k (Stmt.Erase row) known below = tt
+may_call S k (Stmt.Add row v) known below = tt
+may_call S k (Stmt.Need row v) known below = tt
+may_call S k (Stmt.Call n catch) known below =
     let (method, rest) = and_parts _ _ known in record { method = ltb-true n.0 (length S.methods) method; class = caught_known S catch rest; low = below }
-may_call S m (Stmt.This n catch) known below = below
-may_call S m (Stmt.Throw x) known below = ltb-true x.0 (length S.classes) known
-may_call S m Stmt.Mark known below = below
-may_call S m (Stmt.Publish e) known below = below
-may_call S m (Stmt.Register r) known below = below
+may_call S k (Stmt.This n catch) known below = below
+may_call S k (Stmt.Throw x) known below = ltb-true x.0 (length S.classes) known
+may_call S k Stmt.Mark known below = below
+may_call S k (Stmt.Publish e) known below = below
+may_call S k (Stmt.Register r) known below = below
 
 -- each statement of the callback under way is one that it may do
 pub may_call_back : (S : Scenario) (m : MethodNo) (course : Course) (todo : List Registered) (at place : ℕ) (s : Stmt) → IsPlayable S
-    → RegisteredBelow S (rank S m) (map registration todo) → slice_get (last_told S course todo at) place ≡ Some s → MayCallBack S m s
+    → RegisteredBelow S (rank S m) (map registration todo) → slice_get (last_told S course todo at) place ≡ Some s → MayCallBack S (rank S m) s
 may_call_back S m course todo zero place s playable below here = absurd cc
 may_call_back S m course todo (suc at) place s playable below here = by_place (slice_get todo at) refl here
   where
@@ -322,9 +322,9 @@ may_call_back S m course todo (suc at) place s playable below here = by_place (s
     all_told (x ∷ rs) (suc i) r all there = all_told rs i r all.1 there
 
     by_place : (o : Option Registered) → slice_get todo at ≡ o
-        → slice_get (option_map_or (λ (r : Registered). callback_of S course.round committed r.label) o []) place ≡ Some s → MayCallBack S m s
+        → slice_get (option_map_or (λ (r : Registered). callback_of S course.round committed r.label) o []) place ≡ Some s → MayCallBack S (rank S m) s
     by_place (Some r) there stands =
-        may_call S m s (known_called S place s playable course.round committed r.label stands)
+        may_call S (rank S m) s (known_called S place s playable course.round committed r.label stands)
         (below_called S place s (rank S m) course.round committed r.label (all_told todo at r below there) stands)
     by_place None there stands = absurd cc
 
@@ -526,7 +526,36 @@ module _ (S : Scenario) (before after : Machine) (call : Intercepted) (course : 
         calls =
             subst (λ frames. CallsRun S (below_round scope course (standing_of after.context)) (stack frames)) (sym begun_frames)
             (subst (λ below. CallsRun S below (stack before.frames))
-             (below_begun scope owned (standing_of before.context) course.rest.now course.round ∙ ap (below_round scope course) (sym begun_standing)) apart.calls);
+            (below_begun scope owned (standing_of before.context) course.rest.now course.round ∙ ap (below_round scope course) (sym begun_standing)) apart.calls);
         top = subst (λ top. top < most_calls) (sym (ap (λ (z : Machine). z.top) begins.rest)) apart.top;
         holds = ap (λ (z : Machine). z.tokens) begins.rest ∙ apart.holds;
       }
+
+-- ---- listeners that run at once
+
+module _ (S : Scenario) (calls : Calls) (l : ListenerNo) (place : ℕ) where
+  -- a statement of a listener, and the listener after it
+  pub now_next : (s : Stmt) (st : State) → slice_get (listener_body (slice_get S.listeners l.0)) place ≡ Some s
+      → now_after S calls l place (Over None st) ≡ now_after S calls l (place + 1) (callback_statement S calls s st)
+  unfolding callback
+  now_next s st here =
+      ap (λ b. and_then (callback S calls b st) (deals S calls (later_deeds S (publication_of S l)))) (drop_at (listener_body (slice_get S.listeners l.0)) place s here)
+
+  -- a listener that has ended
+  pub now_ends : (x : Option ClassNo) (st : State) → IsNext (listener_body (slice_get S.listeners l.0)) place x None
+      → now_after S calls l place (Over x st) ≡ and_then (Over x st) (deals S calls (later_deeds S (publication_of S l)))
+  unfolding callback
+  now_ends (Some x) st past = refl
+  now_ends None st past =
+      ap (λ b. and_then (callback S calls b st) (deals S calls (later_deeds S (publication_of S l)))) (drop_past (listener_body (slice_get S.listeners l.0)) place (past refl))
+
+-- each statement of a listener is one that it may do
+pub may_listen : (S : Scenario) (l : ListenerNo) (place : ℕ) (s : Stmt) (k : ℕ) → IsPlayable S → CallbacksBelow S k (listener_body (slice_get S.listeners l.0))
+    → slice_get (listener_body (slice_get S.listeners l.0)) place ≡ Some s → MayCallBack S k s
+may_listen S l place s k playable below here = by_place (slice_get S.listeners l.0) refl below here
+  where
+    by_place : (o : Option Listener) → slice_get S.listeners l.0 ≡ o → CallbacksBelow S k (listener_body o) → slice_get (listener_body o) place ≡ Some s → MayCallBack S k s
+    by_place (Some listener) there under stands =
+        may_call S k s (all_here S listener.body place s (entry_of (ListenerInOrder S) S.listeners l.0 listener playable.order.places.listeners there).body stands)
+        (all_at (CallbackBelow S k) listener.body place s under stands)
+    by_place None there under stands = absurd cc

@@ -1,5 +1,5 @@
 -- The stack of calls, the innermost first, where one is put on top or taken off.
-use Rattle.std.proofs.Common.{◌≡◌, ◌⊎◌, inl, inr, get_or, ◌<◌, ◌≤◌, ◌-◌, ◌++◌, ◌∷◌, [], List, length, Option, Some, None, refl, sym, ap, ◌∙◌, subst, append-nil, arith}
+use Rattle.std.proofs.Common.{◌≡◌, ◌⊎◌, inl, inr, get_or, ◌<◌, ◌≤◌, ◌-◌, ◌++◌, ◌∷◌, [], List, length, Option, Some, None, refl, sym, ap, ◌∙◌, append-nil, arith}
 use Rattle.std.proofs.lemmas.Option.{slice_get_cases}
 use Rattle.stx_frames.specs.Stacks.{last_of}
 use Rattle.std.specs.Prelude.{ℕ, reverse, slice_get, unwrap_or, IsSome}

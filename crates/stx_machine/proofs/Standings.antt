@@ -1,6 +1,6 @@
 -- What the calls under way rely on: where a call is put on top, where an action is done, and where a savepoint is made.
-use Rattle.std.proofs.Common.{◌≡◌, ◌∙◌, ◌∷◌, [], ℕ, zero, suc, ◌+◌, ◌-◌, ◌<◌, ◌≤◌, Bool, true, false, List, Option, Some, None, refl, sym, ap, subst, arith, add-one}
-use Rattle.std.specs.Prelude.{◌&&◌, ◌||◌, not, IsSome, IsTrue, ◌^◌}
+use Rattle.std.proofs.Common.{◌≡◌, ◌∙◌, ◌∷◌, [], ℕ, zero, suc, ◌+◌, ◌<◌, ◌≤◌, Bool, true, false, List, Option, Some, None, refl, sym, ap, subst, arith}
+use Rattle.std.specs.Prelude.{◌&&◌, ◌||◌, not, IsSome}
 use Rattle.std.specs.Option.{is_some, option_map}
 use Rattle.std.proofs.lemmas.Bool.{false≢true, and_parts}
 use Rattle.stx_scenario.specs.declared.numbers.MethodNo.{MethodNo}
@@ -20,8 +20,9 @@ use Rattle.stx_machine.specs.declared.interception.Phase.{Phase}
 use Rattle.stx_machine.specs.declared.machine.Machine.{Machine}
 use Rattle.stx_machine.specs.declared.stage.Stage.{Stage}
 use Rattle.stx_machine.specs.declared.tokens.Tokens.{Tokens}
-use Rattle.stx_machine.specs.Machine.{Call, IsPushed, rest_of, stack}
-use Rattle.stx_machine.specs.Sound.{Bond, Unbound, Runs, Ended, CallPoints, CallsRun, IsEarly, IsSound, Standing, StageFits, below_call, below_rest, below_scope, bond_of, caller_rank, RoundsIn, RunsIn, Shelters, below_phase, below_round, due_in, due_told, ends_after, ends_syncs, has_ended, has_own_of, has_point, is_due, is_last, is_point, is_resumption, is_unbound, nothing, one_less, one_more, points_of, releases, runs, standing_of, standing_under, without_own}
+use Rattle.stx_scenario.specs.declared.numbers.ClassNo.{ClassNo}
+use Rattle.stx_machine.specs.Machine.{Call, left_in, left_of, IsPushed, stack, caller_rank}
+use Rattle.stx_machine.specs.Sound.{Bond, Unbound, Runs, Ended, CallPoints, CallsRun, IsBody, IsEarly, IsSound, Standing, StageFits, below_rest, below_scope, bond_of, RoundsIn, RunsIn, Shelters, below_phase, below_round, due_in, due_told, ends_after, ends_syncs, has_ended, has_own_of, has_point, is_due, is_last, is_point, is_resumption, is_unbound, nothing, one_less, one_more, points_of, releases, runs, standing_of, standing_under, without_own}
 use Rattle.stx_machine.proofs.Hearing.{resumption_is}
 use Rattle.stx_machine.proofs.Stacks.{pushed, runs_only}
 
@@ -219,7 +220,7 @@ points_low S standing (Frame.Round round todo at place x ∷ Frame.Body m statem
 points_low S standing (Frame.Round round todo at place x ∷ Frame.Round other rest told statement y ∷ fs) calls = absurd calls
 points_low S standing (Frame.Round round todo at place x ∷ Frame.Now listener statement ∷ fs) calls = absurd calls
 points_low S standing (Frame.Round round todo at place x ∷ []) calls = absurd calls
-points_low S standing (Frame.Now listener place ∷ fs) calls = absurd calls
+points_low S standing (Frame.Now listener place ∷ fs) calls = points_low S standing fs calls.3
 
 -- where the innermost call waits for its savepoint
 pub points_before : (S : Scenario) (standing : Standing) (fs : List Call) → CallPoints S standing fs → points_of standing.bond ≤ 65
@@ -238,3 +239,19 @@ inactive_of (Some r) is = cc
 pub bare_of : (carried : Carried) → standing_of carried ≡ nothing → carried ≡ bare
 bare_of carried none =
     bare_if carried (ap (λ (s : Standing). is_unbound s.bond) none) (inactive_of carried.syncs (ap (λ (s : Standing). s.syncs) none))
+
+-- ---- what is left to do at once
+
+over_running : (standing : Standing) (i : Interception) (phase : Phase) (x : Option ClassNo) → RunsIn standing i phase → left_in (Stage.Over x) phase ≡ 0
+over_running standing i Phase.Running x runs = refl
+over_running standing i Phase.Opening x runs = absurd runs
+over_running standing i (Phase.Completing rest y) x runs = absurd runs
+over_running standing i (Phase.Round course) x runs = absurd runs
+
+-- a body that goes on has nothing left of a completion
+pub over_body : (S : Scenario) (standing : Standing) (fs : List Call) (x : Option ClassNo) → IsBody fs → CallsRun S standing fs → left_of (Stage.Over x) fs ≡ 0
+over_body S standing [] x body calls = absurd body
+over_body S standing (Frame.Body m place catch None ∷ fs) x body calls = refl
+over_body S standing (Frame.Body m place catch (Some i) ∷ fs) x body calls = over_running standing i i.phase x calls.1.1
+over_body S standing (Frame.Round round todo at place y ∷ fs) x body calls = absurd body
+over_body S standing (Frame.Now listener place ∷ fs) x body calls = absurd body

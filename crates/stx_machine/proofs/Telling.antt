@@ -1,13 +1,13 @@
 -- The lines that tell registrations, all in one go.
-use Rattle.std.proofs.Common.{◌≡◌, ◌∙◌, ◌++◌, ◌∷◌, [], Bool, true, false, List, map, Option, refl, sym, ap, append_assoc, append-nil}
+use Rattle.std.proofs.Common.{◌≡◌, ◌∙◌, ◌++◌, ◌∷◌, [], Bool, List, map, refl, sym, ap, append_assoc, append-nil}
 use Rattle.stx_base.specs.declared.line.Line.{Line}
 use Rattle.stx_base.specs.declared.line.Label.{Label}
-use Rattle.stx_model.specs.Contexts.{Context, Registration, ordered, ordered_labels, registered}
+use Rattle.stx_model.specs.Contexts.{ordered_labels}
 use Rattle.stx_model.specs.Meanings.{State}
 use Rattle.stx_model.specs.Scopes.{say_each}
 use Rattle.stx_sync.specs.declared.registered.Registered.{Registered}
 use Rattle.stx_sync.specs.Registries.{registration}
-use Rattle.stx_machine.specs.Machine.{AreTold, tells_resumed, told_line}
+use Rattle.stx_machine.specs.Machine.{AreTold, told_line}
 
 -- a state that has said these lines too
 abbrev pub with_lines : State → List Line → State

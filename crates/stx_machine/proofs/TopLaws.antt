@@ -1,8 +1,7 @@
 -- A client's calls one after the other, and methods called by their rank.
-use Rattle.std.proofs.Common.{◌≡◌, ◌≢◌, ℕ, zero, suc, ◌+◌, ◌<◌, ◌≤◌, ◌==◌, Bool, true, false, List, [], ◌∷◌, drop, Option, Some, None, refl, sym, ap, ◌∙◌, arith, eq-eqb, eqb-true}
+use Rattle.std.proofs.Common.{◌≡◌, ◌≢◌, ℕ, zero, suc, ◌+◌, ◌<◌, ◌≤◌, ◌==◌, Bool, true, false, List, [], ◌∷◌, drop, Some, None, refl, sym, ap, ◌∙◌, arith, eq-eqb, eqb-true}
 use Rattle.std.specs.Prelude.{slice_get, unwrap_or}
 use Rattle.std.proofs.lemmas.Bool.{false≢true}
-use Rattle.stx_scenario.specs.declared.numbers.ClassNo.{ClassNo}
 use Rattle.stx_scenario.specs.declared.numbers.MethodNo.{MethodNo}
 use Rattle.stx_scenario.specs.declared.scenario.Scenario.{Scenario}
 use Rattle.stx_base.specs.declared.call.Want.{Want}
@@ -10,7 +9,7 @@ use Rattle.stx_base.specs.declared.line.Line.{Line}
 use Rattle.stx_base.specs.Weight.{rank}
 use Rattle.stx_model.specs.Meanings.{State, Result, Over, Stops, Breaks, finally, say}
 use Rattle.stx_model.specs.Rounds.{Way, Proxied}
-use Rattle.stx_model.specs.Script.{invoked, calls_below, invoke, tops, calls_of}
+use Rattle.stx_model.specs.Script.{invoked, calls_below, tops, calls_of}
 use Rattle.stx_model.specs.Statements.{caught}
 use Rattle.stx_machine.specs.Machine.{called, inside, later_calls, tops_from}
 use Rattle.stx_machine.proofs.Places.{drop_at, drop_past}
@@ -19,10 +18,10 @@ use Rattle.stx_machine.proofs.Places.{drop_at, drop_past}
 
 module _ (S : Scenario) (way : Way) (m : MethodNo) (st : State) where
   -- within any bound above its rank a method is called in the same way
-  pub calls_at : (bound : ℕ) → rank S m < bound → calls_below S bound way m st ≡ invoked S (inside S m) way m st
+  pub called_at : (bound : ℕ) → rank S m < bound → calls_below S bound way m st ≡ invoked S (inside S m) way m st
   unfolding calls_below
-  calls_at zero less = absurd (omega (arith, less))
-  calls_at (suc bound) less = by_rank (rank S m == bound) (calls_at bound) refl
+  called_at zero less = absurd (omega (arith, less))
+  called_at (suc bound) less = by_rank (rank S m == bound) (called_at bound) refl
     where
       by_rank : (b : Bool) → (rank S m < bound → calls_below S bound way m st ≡ invoked S (inside S m) way m st) → (rank S m == bound) ≡ b
           → elim b as (λ _. Result) [ true ↦ invoked S (calls_below S bound) way m st | false ↦ calls_below S bound way m st ] ≡ invoked S (inside S m) way m st
@@ -54,4 +53,4 @@ module _ (S : Scenario) (n top : ℕ) (calls : List MethodNo) (there : slice_get
   one_call m here low =
       let split = calls_are ∙ drop_at calls top m here ∙ ap (λ cs. m ∷ cs) (ap (λ o. drop (top + 1) (unwrap_or o [])) (sym there)) in
       ap (λ cs. tops S top cs st) split
-      ∙ ap (later_calls S n top) (calls_at S Proxied m (say (Line.Top top) st) 65 (omega (arith, low)) ∙ sym (uncaught S (invoked S (inside S m) Proxied m (say (Line.Top top) st))))
+      ∙ ap (later_calls S n top) (called_at S Proxied m (say (Line.Top top) st) 65 (omega (arith, low)) ∙ sym (uncaught S (invoked S (inside S m) Proxied m (say (Line.Top top) st))))

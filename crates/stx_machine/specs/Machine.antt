@@ -1,7 +1,8 @@
 -- What is left of a client's script at each stage of its machine.
-use Rattle.std.specs.Prelude.{◌≡◌, ℕ, zero, suc, ◌+◌, ◌*◌, ◌<◌, length, map, slice_get, ⊤, ℤ, ◌+ℤ◌, Bool, true, false, List, [], ◌∷◌, ◌++◌, ◌≤◌, drop, reverse, Option, Some, None, IsSome, IfSome, unwrap_or}
+use Rattle.std.specs.Prelude.{◌≡◌, ℕ, zero, suc, ◌+◌, ◌*◌, ◌<◌, ◌==◌, length, map, slice_get, ⊤, ℤ, ◌+ℤ◌, Bool, true, false, List, [], ◌∷◌, ◌++◌, ◌≤◌, drop, reverse, Option, Some, None, IsSome, IfSome, unwrap_or}
 use Rattle.std.specs.Option.{is_some, option_map, option_map_or}
 use Rattle.stx_scenario.specs.declared.numbers.ClassNo.{ClassNo}
+use Rattle.stx_scenario.specs.declared.numbers.EventNo.{EventNo}
 use Rattle.stx_scenario.specs.declared.numbers.ListenerNo.{ListenerNo}
 use Rattle.stx_scenario.specs.declared.numbers.MethodNo.{MethodNo}
 use Rattle.stx_scenario.specs.declared.classes.TheConstants.{CANNOT_CREATE_TRANSACTION_EXCEPTION, CANNOT_GET_JDBC_CONNECTION_EXCEPTION}
@@ -30,14 +31,15 @@ use Rattle.stx_base.specs.Attributes.{attribute}
 use Rattle.stx_base.specs.Weight.{body_of, rank}
 use Rattle.stx_model.specs.Contexts.{Context, Live, Registration, bare, ordered, ordered_labels, registered, with_global_mark, without_syncs}
 use Rattle.stx_model.specs.Ending.{completion_refused}
-use Rattle.stx_model.specs.Listeners.{runs_in}
+use Rattle.stx_model.specs.Below.{listener_body}
+use Rattle.stx_model.specs.Listeners.{Deed, Register, RunNow, Skip, deeds, runs_in}
 use Rattle.stx_model.specs.Meanings.{State, Result, Over, Stops, Breaks, Meaning, and_then, finally, say, with_context, ask, on_take}
 use Rattle.stx_model.specs.Opening.{opening}
 use Rattle.stx_model.specs.Rounds.{Calls, Proxied, callback, callback_line, stopping_round, swallowing_round, swallows, sync_body}
 use Rattle.stx_model.specs.Scopes.{Scope, leaves, acts, ends, begins, opens, fresh_context, in_scope, empty, later_or, live_in, older_if, resumed, ruled, say_each, say_unbind, started_syncs, suspend, suspended, within}
 use Rattle.stx_model.specs.Scopes.{completes as completes_so, resume as resume_scope}
-use Rattle.stx_model.specs.Script.{body, unscoped, invoked, calls_below, tops, calls_of}
-use Rattle.stx_model.specs.Statements.{RowAccess, throws, concludes, caught, is_value, unless_busy, access_row, nothing_more, needed, added, in_transaction, on_connection}
+use Rattle.stx_model.specs.Script.{body, unscoped, invoked, calls_below, deals, tops, calls_of}
+use Rattle.stx_model.specs.Statements.{RowAccess, register_listener, throws, concludes, caught, is_value, unless_busy, access_row, nothing_more, needed, added, in_transaction, on_connection}
 use Rattle.stx_context.specs.Carrying as carrying
 use Rattle.stx_context.specs.Carrying.{Carried, context_of}
 use Rattle.stx_manager.specs.Scopes.{OpenScope}
@@ -52,6 +54,7 @@ use Rattle.stx_machine.specs.declared.interception.Phase.{Phase}
 use Rattle.stx_machine.specs.declared.machine.Machine.{Machine}
 use Rattle.stx_machine.specs.declared.stage.Bound.{Bound}
 use Rattle.stx_machine.specs.declared.stage.Place.{Place}
+use Rattle.stx_machine.specs.declared.stage.Publication.{Publication}
 use Rattle.stx_machine.specs.declared.stage.Stage.{Stage}
 use Rattle.stx_machine.specs.declared.stage.Then.{Then}
 
@@ -64,6 +67,7 @@ falls (Stage.Opening m catch) = true
 falls Stage.Completing = true
 falls Stage.Rounding = true
 falls Stage.Resuming = true
+falls (Stage.Dealing publication) = true
 falls _ = false
 
 -- memory ran out
@@ -148,6 +152,12 @@ Call = Frame Interception
 
 abbrev pub stack : Room Call → List Call
 stack frames = reverse frames.items
+
+-- the rank of the innermost method; a client is above all
+abbrev pub caller_rank : Scenario → List Call → ℕ
+caller_rank S [] = 65
+caller_rank S (Frame.Body m place catch scope ∷ fs) = rank S m
+caller_rank S (_ ∷ fs) = caller_rank S fs
 
 -- the scope that an interception of this method stands for
 abbrev pub scope_of : MethodNo → Interception → Scope
@@ -255,6 +265,56 @@ abbrev pub round_after : Scenario → List Registered → ℕ → ℕ → List C
 round_after S todo at place (Frame.Body m statement catch (Some i) ∷ fs) r = in_round S (inside S m) todo at place i.phase r
 round_after S todo at place _ r = r
 
+-- ---- publications
+
+-- how the innermost method calls others
+abbrev pub calls_at : Scenario → List Call → Calls
+calls_at S fs = calls_below S (caller_rank S fs)
+
+-- with which listener a deed is
+abbrev pub listener_of : Deed → ListenerNo
+listener_of (Register l) = l
+listener_of (RunNow l) = l
+listener_of (Skip l) = l
+
+-- the deeds after that with this listener
+abbrev pub later_than : ListenerNo → List Deed → List Deed
+later_than l [] = []
+later_than l (d ∷ ds) = elim (l.0 == (listener_of d).0) [ true ↦ ds | false ↦ later_than l ds ]
+
+abbrev pub deeds_after : Option ListenerNo → List Deed → List Deed
+deeds_after None ds = ds
+deeds_after (Some l) ds = later_than l ds
+
+-- what is left to do with the listeners of a publication, which registers them or not, after that with one of them
+abbrev pub later_deeds : Scenario → Publication → List Deed
+later_deeds S p = deeds_after p.after (deeds S p.event p.registers p.registers)
+
+-- the event of a listener
+abbrev pub event_of : Scenario → ListenerNo → EventNo
+event_of S l = option_map_or (λ (x : Listener). x.event) (slice_get S.listeners l.0) (record { 0 = 0 })
+
+-- the publication of a listener that runs at once
+abbrev pub publication_of : Scenario → ListenerNo → Publication
+publication_of S l = record { event = event_of S l; after = Some l; registers = false }
+
+-- a publication of which this listener was just dealt with
+abbrev pub dealt : Publication → ListenerNo → Publication
+dealt p l = record { event = p.event; after = Some l; registers = p.registers }
+
+-- a listener is registered, and the others are dealt with
+abbrev pub registers_one : Scenario → Calls → Publication → ListenerNo → Meaning
+registers_one S calls p l st = and_then (register_listener S l st) (deals S calls (later_deeds S (dealt p l)))
+
+-- a listener that runs at once after a piece of its body that came to r, and those after it
+abbrev pub now_after : Scenario → Calls → ListenerNo → ℕ → Result → Result
+now_after S calls l place r =
+    and_then (and_then r (callback S calls (drop place (listener_body (slice_get S.listeners l.0))))) (deals S calls (later_deeds S (publication_of S l)))
+
+-- it begins
+abbrev pub runs_one : Scenario → Calls → ListenerNo → Meaning
+runs_one S calls l st = now_after S calls l 0 (Over None (say (Line.Listen l) st))
+
 -- a body after a piece of it that came to r, and what its call catches
 abbrev pub body_after : Scenario → MethodNo → ℕ → Option ClassNo → Option Interception → Result → Result
 body_after S m place catch scope r = finally (call_after S m place scope r) (caught S catch)
@@ -263,7 +323,7 @@ body_after S m place catch scope r = finally (call_after S m place scope r) (cau
 abbrev pub frame_after : Scenario → List Call → Call → Result → Result
 frame_after S fs (Frame.Body m place catch scope) r = body_after S m place catch scope r
 frame_after S fs (Frame.Round round todo at place x) r = round_after S todo at place fs r
-frame_after S fs (Frame.Now listener place) r = r
+frame_after S fs (Frame.Now listener place) r = now_after S (calls_at S fs) listener place r
 
 -- the call under way after a piece of its innermost frame that came to r
 unfoldable pub resume : Scenario → List Call → Result → Result
@@ -317,6 +377,7 @@ piece S fs (Stage.Opening m catch) st = finally (opened S m st) (caught S catch)
 piece S fs (Stage.Connecting a d) st = ask Want.Take (on_take (connects a d)) st
 piece S fs (Stage.Accessing place a d) st = accesses place a d st
 piece S fs (Stage.Returning c x) st = ask (Want.Give c) (λ _. concludes x) st
+piece S fs (Stage.Dealing publication) st = deals S (calls_at S fs) (later_deeds S publication) st
 piece S fs stage st = of_top S fs stage st
 
 -- ---- a client
@@ -446,6 +507,8 @@ left_in (Stage.Over x) (Phase.Round course) = left_after course + 1
 left_in _ _ = 0
 
 abbrev pub left_of : Stage → List Call → ℕ
+left_of (Stage.Dealing publication) fs = 1
+left_of (Stage.Over x) (Frame.Now listener place ∷ fs) = 2
 left_of stage (Frame.Body m place catch (Some i) ∷ fs) = left_in stage i.phase
 left_of stage (Frame.Round round todo at told x ∷ Frame.Body m place catch (Some i) ∷ fs) = left_in stage i.phase
 left_of _ _ = 0
@@ -559,6 +622,16 @@ tells_all S _ context = false
 abbrev pub told_by : Scenario → Stage → Context → List Registration
 told_by S stage context = elim (tells_all S stage context) [ true ↦ ordered (registered context.syncs) | false ↦ [] ]
 
+-- the next of these deeds
+abbrev pub first_deed : List Deed → Option Deed
+first_deed [] = None
+first_deed (d ∷ ds) = Some d
+
+-- what the step at a stage does with a listener
+abbrev pub deed_by : Scenario → Stage → Option Deed
+deed_by S (Stage.Dealing publication) = first_deed (later_deeds S publication)
+deed_by S _ = None
+
 -- where a scope is to be opened, the method has an attribute
 abbrev pub CanPrepare : Scenario → Stage → Type 0
 CanPrepare S (Stage.Opening m catch) = IsSome (attribute S m)
@@ -599,8 +672,8 @@ round_if S calls owns round committed st = elim owns [ true ↦ whole_round S ca
 abbrev pub rounds_of : Scenario → Intercepted → Course → Meaning
 rounds_of S call course st =
     finally
-        (finally (round_if S (inside S call.method) call.interception.scope.owns course.round course.committed st) (after_round S call.method call.interception course))
-        (caught S call.catch)
+    (finally (round_if S (inside S call.method) call.interception.scope.owns course.round course.committed st) (after_round S call.method call.interception course))
+    (caught S call.catch)
 
 -- ---- rounds
 
@@ -641,15 +714,15 @@ IsRounding _ = ⊥
 abbrev pub telling_after : Scenario → Telling → Result → Result
 telling_after S t r =
     finally
-        (finally (course_after S (inside S t.call.method) t.course t.todo t.at t.place r) (after_round S t.call.method t.call.interception t.course))
-        (caught S t.call.catch)
+    (finally (course_after S (inside S t.call.method) t.course t.todo t.at t.place r) (after_round S t.call.method t.call.interception t.course))
+    (caught S t.call.catch)
 
 -- what the registrations that are still to be told come to
 abbrev pub tells_on : Scenario → Telling → Meaning
 tells_on S t st =
     finally
-        (finally (tells S (inside S t.call.method) t.course.round t.course.committed (untold t.todo t.at) st) (after_round S t.call.method t.call.interception t.course))
-        (caught S t.call.catch)
+    (finally (tells S (inside S t.call.method) t.course.round t.course.committed (untold t.todo t.at) st) (after_round S t.call.method t.call.interception t.course))
+    (caught S t.call.catch)
 
 -- a round's frame
 abbrev pub round_frame : Telling → Call

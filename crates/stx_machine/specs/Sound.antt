@@ -1,5 +1,5 @@
 -- What always holds of a machine: what each call under way has of the context, and what the client holds.
-use Rattle.std.specs.Prelude.{◌≡◌, ℕ, zero, suc, ◌+◌, ◌-◌, ◌^◌, ◌<◌, ◌≤◌, Bool, true, false, ◌&&◌, ◌||◌, not, List, [], ◌∷◌, length, map, Option, Some, None, IsTrue, IsSome, ⊤, slice_get}
+use Rattle.std.specs.Prelude.{◌≡◌, ℕ, zero, suc, ◌-◌, ◌^◌, ◌<◌, ◌≤◌, Bool, true, false, ◌&&◌, ◌||◌, not, List, [], ◌∷◌, length, map, Option, Some, None, IsTrue, IsSome, ⊤, slice_get}
 use Rattle.std.specs.Option.{is_some}
 use Rattle.stx_scenario.specs.declared.scenario.Stmt.{Stmt}
 use Rattle.stx_base.specs.Weight.{rank}
@@ -15,8 +15,10 @@ use Rattle.stx_base.specs.declared.manager.Kind.{Kind}
 use Rattle.stx_base.specs.Attributes.{attribute}
 use Rattle.stx_base.specs.Limits.{most_calls}
 use Rattle.stx_base.specs.declared.manager.Round.{Round}
-use Rattle.stx_model.specs.Below.{RegisteredBelow, SyncBelow}
+use Rattle.std.specs.List.{AllByRecursion}
+use Rattle.stx_model.specs.Below.{DeedBelow, ListenerBelow, RegisteredBelow, SyncBelow}
 use Rattle.stx_model.specs.Contexts.{Registration, registered}
+use Rattle.stx_model.specs.Listeners.{Deed, deeds}
 use Rattle.stx_model.specs.Ending.{completion_refused}
 use Rattle.stx_conn.specs.Bindings.{Binding}
 use Rattle.stx_context.specs.Carrying.{Carried, bare, context_of}
@@ -33,7 +35,7 @@ use Rattle.stx_machine.specs.declared.machine.Machine.{Machine}
 use Rattle.stx_machine.specs.declared.stage.Place.{Place}
 use Rattle.stx_machine.specs.declared.stage.Stage.{Stage}
 use Rattle.stx_machine.specs.declared.tokens.Tokens.{Tokens}
-use Rattle.stx_machine.specs.Machine.{Call, stack, rest_of, IsClass, IsIntercepting}
+use Rattle.stx_machine.specs.Machine.{Call, IsClass, IsIntercepting, caller_rank, later_deeds, publication_of, rest_of, stack}
 
 -- ---- tokens
 
@@ -263,12 +265,6 @@ pub record IsCall (S : Scenario) (k : ℕ) (m : MethodNo) (catch : Option ClassN
   pub class : IsClass S catch
   pub low : rank S m < k
 
--- the rank of the innermost method; a client is above all
-abbrev pub caller_rank : Scenario → List Call → ℕ
-caller_rank S [] = 65
-caller_rank S (Frame.Body m place catch scope ∷ fs) = rank S m
-caller_rank S (_ ∷ fs) = caller_rank S fs
-
 -- what is registered for a scope that owns it calls only methods of a rank below that of the scope's method
 abbrev pub Shelters : Scenario → MethodNo → Bool → Option (List Registration) → Type 0
 Shelters S m true syncs = RegisteredBelow S (rank S m) (registered syncs)
@@ -325,7 +321,16 @@ pub record IsTold (S : Scenario) (m : MethodNo) (todo : List Registered) (at : �
   pub few : length todo < 2 ^ 32
   pub within : at ≤ length todo
 
--- calls whose bodies or rounds run, the innermost first
+-- what is done with listeners calls only methods of a rank below this
+abbrev pub DeedsBelow : Scenario → ℕ → List Deed → Type 0
+DeedsBelow S k ds = AllByRecursion (DeedBelow S k) ds
+
+-- the innermost is a method's body: it alone publishes
+abbrev pub IsBody : List Call → Type 0
+IsBody (Frame.Body m place catch scope ∷ fs) = ⊤
+IsBody _ = ⊥
+
+-- calls whose bodies, rounds or listeners run, the innermost first
 abbrev pub CallsRun : Scenario → Standing → List Call → Type 0
 CallsRun S standing [] = standing ≡ nothing
 CallsRun S standing (Frame.Body m place catch scope ∷ fs) =
@@ -333,6 +338,8 @@ CallsRun S standing (Frame.Body m place catch scope ∷ fs) =
 CallsRun S standing (Frame.Round round todo at place x ∷ Frame.Body m statement catch (Some i) ∷ fs) =
     IsCall S (caller_rank S fs) m catch × IsIntercepted S m (owns_in i.scope i.phase) standing.syncs × RoundsIn S standing i i.phase × IsTold S m todo at
     × CallsRun S (below_phase i.scope i.phase standing) fs
+CallsRun S standing (Frame.Now listener place ∷ fs) =
+    ListenerBelow S (caller_rank S fs) listener × DeedsBelow S (caller_rank S fs) (later_deeds S (publication_of S listener)) × IsBody fs × CallsRun S standing fs
 CallsRun S standing _ = ⊥
 
 -- the innermost call waits for its transaction
@@ -381,6 +388,7 @@ StageFits S (Stage.Opening m catch) carried fs = IsCall S (caller_rank S fs) m c
 StageFits S (Stage.Returning c x) carried fs = IsClass S x × CallsRun S (standing_of carried) fs
 StageFits S (Stage.Connecting a d) carried fs = CallsRun S (standing_of carried) fs
 StageFits S (Stage.Accessing place a d) carried fs = CallsRun S (standing_of carried) fs
+StageFits S (Stage.Dealing publication) carried fs = DeedsBelow S (caller_rank S fs) (later_deeds S publication) × IsBody fs × CallsRun S (standing_of carried) fs
 StageFits S Stage.Taking carried fs = (carried ≡ bare) × CallOpens S fs
 StageFits S (Stage.Beginning c) carried fs = (carried ≡ bare) × CallOpens S fs
 StageFits S (Stage.Pointing t) carried fs = CallPoints S (standing_of carried) fs
@@ -483,18 +491,18 @@ MayMake S caller (Stmt.Call m catch) = IsCall S (rank S caller) m catch
 MayMake S caller (Stmt.This m catch) = IsCall S (rank S caller) m catch
 MayMake S caller (Stmt.Throw x) = x.0 < length S.classes
 MayMake S caller (Stmt.Register sync) = SyncBelow S (rank S caller) sync
-MayMake S caller (Stmt.Publish event) = ⊥
+MayMake S caller (Stmt.Publish event) = (active live : Bool) → DeedsBelow S (rank S caller) (deeds S event active live)
 MayMake S caller _ = ⊤
 
--- what a callback of a call of this method may do
-abbrev pub MayCallBack : Scenario → MethodNo → Stmt → Type 0
-MayCallBack S caller (Stmt.Call m catch) = IsCall S (rank S caller) m catch
-MayCallBack S caller (Stmt.This m catch) = ⊥
-MayCallBack S caller (Stmt.Throw x) = x.0 < length S.classes
-MayCallBack S caller Stmt.Mark = ⊥
-MayCallBack S caller (Stmt.Register sync) = ⊥
-MayCallBack S caller (Stmt.Publish event) = ⊥
-MayCallBack S caller _ = ⊤
+-- what a callback may do that calls only methods of a rank below this
+abbrev pub MayCallBack : Scenario → ℕ → Stmt → Type 0
+MayCallBack S k (Stmt.Call m catch) = IsCall S k m catch
+MayCallBack S k (Stmt.This m catch) = ⊥
+MayCallBack S k (Stmt.Throw x) = x.0 < length S.classes
+MayCallBack S k Stmt.Mark = ⊥
+MayCallBack S k (Stmt.Register sync) = ⊥
+MayCallBack S k (Stmt.Publish event) = ⊥
+MayCallBack S k _ = ⊤
 
 -- the statement at the place, if nothing was thrown and there is one
 abbrev pub IsNext : List Stmt → ℕ → Option ClassNo → Option Stmt → Type 0

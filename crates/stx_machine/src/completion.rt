@@ -53,10 +53,7 @@ fn decision(setup: &Setup, method: MethodNo, thrown: ClassNo) -> Decision
 fn has_before_commit(kind: Kind, ending: Ending) -> bool
     ensures { result ≡ is_before_commit kind ending }
 {
-    matches!(
-        (kind, ending),
-        (Kind::Fresh | Kind::Empty, Ending::Commit)
-    )
+    matches!((kind, ending), (Kind::Fresh | Kind::Empty, Ending::Commit))
 }
 
 fn taken_apart(frame: Frame<Interception>) -> Intercepted
@@ -337,7 +334,12 @@ impl Machine {
 // The actions themselves.
 impl Machine {
     /// Goes on with these actions.
-    pub(crate) fn go_on_with(&mut self, call: Intercepted, rest: &'static [Action], thrown: Option<ClassNo>)
+    pub(crate) fn go_on_with(
+        &mut self,
+        call: Intercepted,
+        rest: &'static [Action],
+        thrown: Option<ClassNo>,
+    )
         requires frames { 1 ≤ self.old.frames.spare }
         ensures goes { (S : ScenarioData) → Comes S self.old (acts_of S call rest.now thrown) self.new }
         ensures sound { (S : ScenarioData) → IsCompleting S (rank_at S self.old) call (standing_of self.old.context) rest.now thrown → IsApart S self.old (below_rest call.interception.scope rest.now (standing_of self.old.context)) → IsSound S self.new no_tokens }

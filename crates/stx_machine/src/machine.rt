@@ -1,18 +1,23 @@
 // The machine itself.
 ghost use Rattle.std.specs.Prelude.{◌≡◌, ◌≤◌, ◌<◌, ◌+◌, ◌^◌, ◌⊎◌, [], None, length, map, IfOk, OnOk, OnErr};
+ghost use Rattle.std.specs.Option.{option_map};
+ghost use Rattle.stx_model.specs.Playable.{IsPlayable};
+ghost use Rattle.stx_events.specs.Deeds.{deed_of};
 ghost use Rattle.stx_context.specs.Carrying.{bare, context_of};
 ghost use Rattle.stx_sync.specs.Registries.{registration};
-ghost use Rattle.stx_machine.specs.Machine.{CanPrepare, HasRoom, suspends as suspends_in, tells_all, told_by};
+ghost use Rattle.stx_machine.specs.Machine.{CanPrepare, HasRoom, deed_by, suspends as suspends_in, tells_all, told_by};
 ghost use Rattle.stx_machine.specs.Sound.{no_tokens};
 
 use crate::calls::attribute_of;
 use crate::interception::Interception;
+use crate::publications::next_deed;
 use crate::setup::Setup;
 use crate::stage::Stage;
 use crate::tokens::Tokens;
 use std::alloc::Global;
 use stx_base::{ClientLines, Line, Opening};
 use stx_context::Context;
+use stx_events::Deed;
 use stx_frames::Frames;
 use stx_manager::opening;
 use stx_scenario::{List, NoMemory, Roomy};
@@ -23,6 +28,13 @@ const MOST_LINES: usize = 4;
 
 /// The most registrations that are told in one go.
 const MOST_TOLD: usize = u32::MAX as usize;
+
+/// What a small step tells, by order, and what it does with a listener.
+#[derive(Drop)]
+pub(crate) struct Ahead {
+    pub(crate) told: List<Registered>,
+    pub(crate) deed: Option<Deed>,
+}
 
 /// Where a client stands in its calls, what it carries and holds, and the lines that it has said.
 pub struct Machine {
@@ -108,12 +120,14 @@ impl Machine {
         self.frames.reserve(alloc)
     }
 
-    /// Makes room for a small step, and gives the registrations that it tells, by order.
-    pub(crate) fn prepare(&mut self, alloc: Global, setup: &Setup) -> Result<List<Registered>, NoMemory>
+    /// Makes room for a small step, and gives what it tells and deals with.
+    pub(crate) fn prepare(&mut self, alloc: Global, setup: &Setup) -> Result<Ahead, NoMemory>
+        requires playable { IsPlayable setup.now.scenario }
         requires stage { CanPrepare setup.now.scenario self.old.stage }
-        ensures told { IfOk result (λ told. map registration told ≡ told_by setup.now.scenario self.old.stage (context_of self.old.context)) }
-        ensures few { IfOk result (λ told. length told < 2 ^ 32) }
-        ensures lines { IfOk result (λ told. length told + 4 ≤ self.new.lines.spare) }
+        ensures told { IfOk result (λ ahead. map registration ahead.told ≡ told_by setup.now.scenario self.old.stage (context_of self.old.context)) }
+        ensures deed { IfOk result (λ ahead. option_map deed_of ahead.deed ≡ deed_by setup.now.scenario self.old.stage) }
+        ensures few { IfOk result (λ ahead. length ahead.told < 2 ^ 32) }
+        ensures lines { IfOk result (λ ahead. length ahead.told + 4 ≤ self.new.lines.spare) }
         ensures frames { OnOk result (1 ≤ self.new.frames.spare) }
         ensures registry { OnOk result (HasRoom self.new.context) }
         ensures said { self.new.lines.items ≡ self.old.lines.items }
@@ -123,9 +137,10 @@ impl Machine {
         ensures rest { self.new ≡ record self.old { lines = self.new.lines; frames = self.new.frames; context = self.new.context } }
     {
         let told = self.told_now(alloc, setup)?;
+        let deed = self.deed_now(alloc, setup)?;
         self.reserve_lines(alloc, told.len())?;
         self.reserve_registration(alloc)?;
-        Ok(told)
+        Ok(Ahead { told, deed })
     }
 
     // The registrations that the next small step tells, by order.
@@ -143,6 +158,17 @@ impl Machine {
                 Ok(told)
             }
             _ => Ok(List::new(alloc)),
+        }
+    }
+
+    // What the next small step does with a listener of a publication.
+    fn deed_now(&self, alloc: Global, setup: &Setup) -> Result<Option<Deed>, NoMemory>
+        requires playable { IsPlayable setup.now.scenario }
+        ensures { IfOk result (λ deed. option_map deed_of deed ≡ deed_by setup.now.scenario self.now.stage) }
+    {
+        match self.stage {
+            Stage::Dealing(publication) => next_deed(alloc, setup, publication),
+            _ => Ok(None),
         }
     }
 

@@ -79,7 +79,13 @@ impl Machine {
     }
 
     // Suspends what is carried, and goes to the take of a fresh scope's connection.
-    fn open_fresh(&mut self, method: MethodNo, catch: Option<ClassNo>, owns: bool, told: &[Registered])
+    fn open_fresh(
+        &mut self,
+        method: MethodNo,
+        catch: Option<ClassNo>,
+        owns: bool,
+        told: &[Registered],
+    )
         requires told { AreTold told.now (context_of self.old.context) }
         requires lines { length told.now + 1 ≤ self.old.lines.spare }
         requires frames { 1 ≤ self.old.frames.spare }
@@ -102,7 +108,12 @@ impl Machine {
         ensures waits { falls self.new.stage ≡ false }
     {
         let tx = self.transaction();
-        self.push_call(method, catch, Scope::new(Kind::Point, false, None), Phase::Opening);
+        self.push_call(
+            method,
+            catch,
+            Scope::new(Kind::Point, false, None),
+            Phase::Opening,
+        );
         self.stage = Stage::Pointing(tx);
     }
 

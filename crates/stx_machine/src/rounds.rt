@@ -11,7 +11,7 @@ ghost use Rattle.stx_model.specs.Rounds.{callback_line as callback_line_of, call
 ghost use Rattle.stx_model.specs.Scopes.{later_or};
 ghost use Rattle.stx_context.specs.Carrying.{context_of};
 ghost use Rattle.stx_machine.specs.declared.stage.Stage.{Stage as StageData};
-ghost use Rattle.stx_machine.specs.Machine.{AreTold, Comes, IsClass, IsRounding, IsToldOn, Moves, MovesOn, SaysCallback, acts_of, callback_of as callback_in, inside, last_told, left, left_after, left_of, of_top, rest_after as rest_in, rounds_of, runs_on, stack, status as status_of, stops as stops_at, telling_after, tells_on};
+ghost use Rattle.stx_machine.specs.Machine.{AreTold, Comes, calls_at, IsClass, IsRounding, IsToldOn, Moves, MovesOn, SaysCallback, acts_of, callback_of as callback_in, inside, last_told, left, left_after, left_of, of_top, rest_after as rest_in, rounds_of, runs_on, stack, status as status_of, stops as stops_at, telling_after, tells_on};
 ghost use Rattle.stx_machine.specs.Sound.{CallRounds, IsApart, IsAtRound, IsInRound, IsNext, IsSound, IsTelling, IsWithin, MayCallBack, below_round, held, no_tokens, rank_at, standing_of};
 
 use crate::bodies::access_of;
@@ -67,7 +67,12 @@ fn completion_refused(kind: Kind) -> &'static [Action]
 }
 
 // The actions after a round in which this was thrown or nothing: those that are left, but where a before_commit round threw.
-fn rest_after(kind: Kind, round: Round, rest: &'static [Action], thrown: Option<ClassNo>) -> &'static [Action]
+fn rest_after(
+    kind: Kind,
+    round: Round,
+    rest: &'static [Action],
+    thrown: Option<ClassNo>,
+) -> &'static [Action]
     ensures { result.now ≡ rest_in kind round rest.now thrown }
 {
     match (round, thrown) {
@@ -252,7 +257,6 @@ impl Machine {
         ensures sound { IsSound setup.now.scenario self.new (held self.new.stage) }
         ensures moves { MovesOn self.old self.new }
     {
-        let method = telling.call.method;
         let Telling {
             call,
             course,
@@ -267,18 +271,17 @@ impl Machine {
             at,
             place: place + 1,
         });
-        self.make_in_callback(setup, method, statement);
+        self.make_in_callback(setup, statement);
     }
 
-    // Does a statement of a callback of a call of this method.
-    fn make_in_callback(&mut self, setup: &Setup, caller: MethodNo, statement: Stmt)
+    /// Does a statement of a callback.
+    pub(crate) fn make_in_callback(&mut self, setup: &Setup, statement: Stmt)
         requires playable { IsPlayable setup.now.scenario }
-        requires may { MayCallBack setup.now.scenario caller statement }
+        requires may { MayCallBack setup.now.scenario (rank_at setup.now.scenario self.old) statement }
         requires within { IsWithin setup.now.scenario self.old no_tokens }
-        requires rank { rank_at setup.now.scenario self.old ≡ rank setup.now.scenario caller }
         requires lines { 1 ≤ self.old.lines.spare }
         requires frames { 1 ≤ self.old.frames.spare }
-        ensures goes { Comes setup.now.scenario self.old (callback_statement_in setup.now.scenario (inside setup.now.scenario caller) statement) self.new }
+        ensures goes { Comes setup.now.scenario self.old (callback_statement_in setup.now.scenario (calls_at setup.now.scenario (stack self.old.frames)) statement) self.new }
         ensures sound { IsSound setup.now.scenario self.new (held self.new.stage) }
         ensures moves { MovesOn self.old self.new }
     {
@@ -339,7 +342,12 @@ impl Machine {
             None => self.end_round(call, course, None),
             Some(told) => {
                 let label = told.label;
-                self.say_callback(setup, course.round, status(course.round, course.committed), label);
+                self.say_callback(
+                    setup,
+                    course.round,
+                    status(course.round, course.committed),
+                    label,
+                );
                 self.put_back_round(Telling {
                     call,
                     course,
@@ -374,7 +382,12 @@ impl Machine {
         ensures lines { self.new.lines ≡ self.old.lines }
         ensures left { left self.new ≤ left_after course }
     {
-        let rest = rest_after(call.interception.scope.kind(), course.round, course.rest, thrown);
+        let rest = rest_after(
+            call.interception.scope.kind(),
+            course.round,
+            course.rest,
+            thrown,
+        );
         self.go_on_with(call, rest, thrown.or(course.thrown));
     }
 }

@@ -3,7 +3,7 @@ ghost use Rattle.std.specs.Prelude.{◌≡◌};
 ghost use Rattle.stx_machine.specs.Machine.{want_of, falls};
 
 use stx_base::{Access, Want};
-use stx_scenario::{ClassNo, MethodNo, RowNo, Stmt};
+use stx_scenario::{ClassNo, EventNo, ListenerNo, MethodNo, RowNo};
 
 /// Where an access is made.
 #[derive(Clone, Copy, Debug)]
@@ -33,7 +33,17 @@ pub struct Bound {
     pub mark: bool,
 }
 
-/// What the client does next. The first five are done at once; each other one wants a shared call, or nothing more.
+/// A publication, while its listeners are dealt with.
+#[derive(Clone, Copy, Debug)]
+pub struct Publication {
+    pub event: EventNo,
+    /// The listener that was dealt with last, if one was.
+    pub after: Option<ListenerNo>,
+    /// Whether the listeners become registrations.
+    pub registers: bool,
+}
+
+/// What the client does next. The first six are done at once; each other one wants a shared call, or nothing more.
 #[derive(Clone, Copy, Debug)]
 pub enum Stage {
     /// The newest piece of the innermost call has ended, normally or with an exception of this class.
@@ -45,6 +55,8 @@ pub enum Stage {
     },
     /// The scope of the innermost call completes: its next action is due.
     Completing,
+    /// The next listener of a publication is to be dealt with.
+    Dealing(Publication),
     /// A round of the innermost call's callbacks begins.
     Rounding,
     /// What was suspended for the innermost call is carried again, and its registrations are to be told.
@@ -93,6 +105,7 @@ impl Stage {
             Stage::Over(_)
                 | Stage::Opening { .. }
                 | Stage::Completing
+                | Stage::Dealing(_)
                 | Stage::Rounding
                 | Stage::Resuming
         )
@@ -120,6 +133,7 @@ impl Stage {
             Stage::Over(_)
             | Stage::Opening { .. }
             | Stage::Completing
+            | Stage::Dealing(_)
             | Stage::Rounding
             | Stage::Resuming
             | Stage::Failed => Want::Failed,

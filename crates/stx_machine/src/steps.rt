@@ -1,5 +1,7 @@
 // Small steps: what is done at once, one piece at a time.
 ghost use Rattle.std.specs.Prelude.{◌≡◌, ◌≤◌, ◌<◌, ◌+◌, ◌^◌, ◌∷◌, length, map, true, false, OnOk, OnErr};
+ghost use Rattle.std.specs.Option.{option_map};
+ghost use Rattle.stx_events.specs.Deeds.{deed_of};
 ghost use Rattle.stx_base.specs.Weight.{body_of, rank};
 ghost use Rattle.stx_model.specs.Meanings.{Over};
 ghost use Rattle.stx_model.specs.Playable.{IsPlayable};
@@ -8,13 +10,13 @@ ghost use Rattle.stx_context.specs.Carrying.{context_of};
 ghost use Rattle.stx_sync.specs.Registries.{registration};
 ghost use Rattle.stx_machine.specs.declared.interception.Phase.{Phase as PhaseData};
 ghost use Rattle.stx_machine.specs.declared.stage.Stage.{Stage as StageData};
-ghost use Rattle.stx_machine.specs.Machine.{Comes, ComesTo, Goes, HasRoom, IsClass, IsLonger, IsRounding, Moves, MovesLines, MovesOn, body_after, falls, inside, left, left_of, of_top, put_back, stack, told_by};
-ghost use Rattle.stx_machine.specs.Sound.{IsApart, IsCall, IsEndingCall, IsNext, IsSound, IsWithin, MayMake, ScopeRuns, below_call, held, no_tokens, rank_at, standing_of};
+ghost use Rattle.stx_machine.specs.Machine.{Comes, ComesTo, Goes, deed_by, HasRoom, IsClass, IsLonger, IsRounding, Moves, MovesLines, MovesOn, body_after, falls, inside, left, left_of, of_top, put_back, stack, told_by};
+ghost use Rattle.stx_machine.specs.Sound.{IsApart, IsBody, IsCall, IsEndingCall, IsNext, IsSound, IsWithin, MayMake, ScopeRuns, below_call, held, no_tokens, rank_at, standing_of};
 
 use crate::bodies::access_of;
 use crate::completion::Intercepted;
 use crate::interception::{Interception, Phase};
-use crate::machine::Machine;
+use crate::machine::{Ahead, Machine};
 use crate::rounds::Telling;
 use crate::setup::Setup;
 use crate::stage::Stage;
@@ -52,33 +54,36 @@ impl Machine {
     {
         let said = self.lines.as_slice().len();
         while self.stage.falls() && self.lines.as_slice().len() == said {
-            let told = self.prepare(alloc, setup)?;
-            self.step(alloc, setup, number, told);
+            let ahead = self.prepare(alloc, setup)?;
+            self.step(alloc, setup, number, ahead);
         }
         Ok(())
     }
 
-    // One small step, which may tell these registrations.
-    fn step(&mut self, alloc: Global, setup: &Setup, number: u32, told: List<Registered>)
+    // One small step, with what it tells and deals with.
+    fn step(&mut self, alloc: Global, setup: &Setup, number: u32, ahead: Ahead)
         requires playable { IsPlayable setup.now.scenario }
         requires client { number < length setup.now.scenario.clients }
         requires sound { IsSound setup.now.scenario self.old (held self.old.stage) }
         requires falls { falls self.old.stage ≡ true }
-        requires told { map registration told ≡ told_by setup.now.scenario self.old.stage (context_of self.old.context) }
-        requires few { length told < 2 ^ 32 }
-        requires lines { length told + 4 ≤ self.old.lines.spare }
+        requires told { map registration ahead.told ≡ told_by setup.now.scenario self.old.stage (context_of self.old.context) }
+        requires deed { option_map deed_of ahead.deed ≡ deed_by setup.now.scenario self.old.stage }
+        requires few { length ahead.told < 2 ^ 32 }
+        requires lines { length ahead.told + 4 ≤ self.old.lines.spare }
         requires frames { 1 ≤ self.old.frames.spare }
         requires registry { HasRoom self.old.context }
         ensures goes { Goes setup.now.scenario number self.old self.new }
         ensures sound { IsSound setup.now.scenario self.new (held self.new.stage) }
         ensures moves { Moves (left self.old) self.old self.new }
     {
+        let Ahead { told, deed } = ahead;
         match self.stage {
             Stage::Opening { method, catch } => {
                 self.open(alloc, setup, method, catch, told.as_slice());
             }
             Stage::Over(thrown) => self.go_on(setup, number, thrown),
             Stage::Completing => self.go_on_completing(setup),
+            Stage::Dealing(publication) => self.deal(setup, publication, deed),
             Stage::Rounding => self.tell(told),
             Stage::Resuming => self.tell_resumed(told),
             _ => unreachable!(),
@@ -136,7 +141,9 @@ impl Machine {
                 let telling = self.take_round(todo, at, place);
                 self.go_on_round(setup, telling, thrown);
             }
-            Some(Frame::Now { .. }) => unreachable!(),
+            Some(Frame::Now { listener, place }) => {
+                self.go_on_listener(setup, listener, place, thrown);
+            }
         }
     }
 
@@ -216,6 +223,7 @@ impl Machine {
         requires may { MayMake setup.now.scenario caller statement }
         requires within { IsWithin setup.now.scenario self.old no_tokens }
         requires rank { rank_at setup.now.scenario self.old ≡ rank setup.now.scenario caller }
+        requires body { IsBody (stack self.old.frames) }
         requires lines { 1 ≤ self.old.lines.spare }
         requires frames { 1 ≤ self.old.frames.spare }
         requires registry { HasRoom self.old.context }
@@ -229,6 +237,7 @@ impl Machine {
             Stmt::Throw(class) => self.throw(class),
             Stmt::Mark => self.mark(),
             Stmt::Register(sync) => self.register(setup, sync),
+            Stmt::Publish(event) => self.publish(event),
             _ => match access_of(statement) {
                 Some((access, then)) => self.want_access(access, then),
                 None => unreachable!(),

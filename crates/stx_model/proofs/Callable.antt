@@ -1,22 +1,14 @@
 -- What calls only methods of a rank below a bound: a greater bound will do, and lists of registrations may grow and be ordered.
-use Rattle.std.proofs.Common.{◌<◌, ◌≤◌, ◌++◌, ◌∷◌, [], Bool, true, false, ℤ, List, Option, Some, None, arith}
-use Rattle.std.specs.Prelude.{⊤, ℕ, slice_get, int_lt}
+use Rattle.std.proofs.Common.{◌≤◌, ◌++◌, ◌∷◌, [], Bool, true, false, ℤ, List, arith}
+use Rattle.std.specs.Prelude.{ℕ, slice_get, int_lt}
 use Rattle.std.specs.List.{AllByRecursion, fold}
-use Rattle.stx_scenario.specs.declared.numbers.MethodNo.{MethodNo}
-use Rattle.stx_scenario.specs.declared.numbers.SyncNo.{SyncNo}
-use Rattle.stx_scenario.specs.declared.numbers.ListenerNo.{ListenerNo}
 use Rattle.stx_scenario.specs.declared.scenario.Scenario.{Scenario}
-use Rattle.stx_scenario.specs.declared.scenario.Listener.{Listener}
 use Rattle.stx_scenario.specs.declared.scenario.Stmt.{Stmt}
 use Rattle.stx_base.specs.declared.line.Label.{Label}
-use Rattle.stx_base.specs.declared.manager.Round.{Round}
-use Rattle.stx_base.specs.Weight.{body_of, rank}
 use Rattle.stx_model.specs.Contexts.{Registration}
-use Rattle.stx_model.specs.Listeners.{Deed, Register, RunNow, Skip, deeds}
 use Rattle.stx_model.specs.Below.{CallbackBelow, CallbacksBelow, LabelBelow, RegisteredBelow, listener_body}
 use Rattle.stx_model.specs.Orders.{inserted, by_order}
 use Rattle.stx_model.specs.Rounds.{sync_body}
-use Rattle.stx_model.specs.Script.{calls_of}
 
 -- ---- a higher rank will do
 

@@ -163,7 +163,7 @@ module _ (S : Scenario) (k : ℕ) where
 
 -- ---- numbered lists
 
-numbered_all : {X : Type 0} (P : ℕ × X → Type 0) (n : ℕ) (xs : List X) → ((i : ℕ) (x : X) → slice_get xs i ≡ Some x → P (n + i, x))
+pub numbered_all : {X : Type 0} (P : ℕ × X → Type 0) (n : ℕ) (xs : List X) → ((i : ℕ) (x : X) → slice_get xs i ≡ Some x → P (n + i, x))
     → AllByRecursion P (enumerate_from n xs)
 numbered_all P n [] each = tt
 numbered_all P n (x ∷ xs) each = (
@@ -171,7 +171,7 @@ numbered_all P n (x ∷ xs) each = (
   numbered_all P (n + 1) xs (λ i y there. let same : n + suc i ≡ n + 1 + i = omega arith in subst (λ j. P (j, y)) same (each (suc i) y there)),
 )
 
-filter_all : {X : Type 0} (P : X → Type 0) (p : X → Bool) (xs : List X) → AllByRecursion (λ x. p x ≡ true → P x) xs
+pub filter_all : {X : Type 0} (P : X → Type 0) (p : X → Bool) (xs : List X) → AllByRecursion (λ x. p x ≡ true → P x) xs
     → AllByRecursion P (filter p xs)
 filter_all P p [] all = tt
 filter_all P p (x ∷ xs) all = by_first (p x) refl (filter_all P p xs all.1)
@@ -180,7 +180,7 @@ filter_all P p (x ∷ xs) all = by_first (p x) refl (filter_all P p xs all.1)
     by_first true is rest = (all.0 is, rest)
     by_first false is rest = rest
 
-map_all : {X Y : Type 0} (P : Y → Type 0) (f : X → Y) (xs : List X) → AllByRecursion (λ x. P (f x)) xs → AllByRecursion P (map f xs)
+pub map_all : {X Y : Type 0} (P : Y → Type 0) (f : X → Y) (xs : List X) → AllByRecursion (λ x. P (f x)) xs → AllByRecursion P (map f xs)
 map_all P f [] all = tt
 map_all P f (x ∷ xs) all = (all.0, map_all P f xs all.1)
 

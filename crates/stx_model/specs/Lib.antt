@@ -9,7 +9,6 @@ pub mod Rounds
 pub mod Scopes
 pub mod Script
 pub mod Below
-pub mod Built
 pub mod Playable
 pub mod Played
 pub mod Brackets

@@ -1,6 +1,6 @@
 // Two clients that meet in the middle of their transactions, each on a thread of its own.
 ghost use Rattle.std.specs.Prelude.{};
-ghost use Rattle.stx_model.specs.Playable.{IsPlayable};
+ghost use Rattle.stx_judge.specs.Judge.{IsValid};
 
 use std::alloc::Global;
 use std::sync::Wait;
@@ -11,7 +11,7 @@ use stx_client::Setup;
 use stx_report::print;
 use stx_runner::{Gate, Meet, run};
 use stx_scenario::{NoMemory, Scenario};
-use stx_tool::{Reading, read_to_play};
+use stx_tool::{Reading, read};
 
 /// Two clients, each with a transaction that writes two rows of its own.
 const TWO_WRITERS: &str =
@@ -27,7 +27,7 @@ fn run_at<R: Threads + Wait + Sync, G: Gate>(
     scenario: Scenario,
     gate: &G,
 ) -> Result<(usize, Vec<u8>), NoMemory>
-    requires { IsPlayable scenario }
+    requires { IsValid scenario }
 {
     let setup = Setup::new(alloc, scenario)?;
     let outcome = run(rt, alloc, &setup, gate)?;
@@ -46,7 +46,7 @@ fn commits(outcome: &Outcome) -> usize {
 /// Whether the two clients met before their fourth calls, both committed, and all four rows are there.
 fn have_met<R: Threads + Wait + Sync>(rt: &R, alloc: Global) -> Result<bool, NoMemory> {
     let gate = Meet::new(0, 1, 4, 10_000_000);
-    match read_to_play(alloc, TWO_WRITERS.as_bytes())? {
+    match read(alloc, TWO_WRITERS.as_bytes())? {
         Reading::Accepted(scenario) => {
             let (commits, text) = run_at(rt, alloc, scenario, &gate)?;
             Ok(gate.met() && commits == 2 && text.ends_with(ROWS))

@@ -1,6 +1,7 @@
 -- How a top call ends: its statuses, and what it read, answered and wrote. `J` is the type of a program's jobs.
 use Rattle.std.specs.Prelude.{◌≡◌, ◌⊎◌, ◌==◌, ℕ, ◌≤◌, Bool, true, false, List, [], ◌∷◌, length, Option, Some, None}
 use Rattle.std.specs.List.{list_any}
+use Rattle.std.specs.Option.{option_map_or}
 use Rattle.stx_scenario.specs.declared.limits.TheConstants.{MOST_INPUT_BYTES}
 use Rattle.stx_base.specs.declared.outcome.Report.{Report}
 use Rattle.stx_outside.specs.Streams.{LosesAll}
@@ -56,9 +57,21 @@ pub record IsAnswered {J : Type 0} (needs_input : J → Bool) (stated : Option J
   pub read : HasInput (needs_input job) left_before left_now bytes
   pub answered : Answered job bytes
 
--- input that a job is done with
-pub record IsAccepted {J : Type 0} (stated : Option J) (refusal : J → List ℕ → Option (List ℕ)) (input : List ℕ) : Type 0 where
+-- ---- what a job is done with
+
+-- whether the words state a job that needs input
+abbrev pub is_input_needed : {J : Type 0} → (J → Bool) → Option J → Bool
+is_input_needed needs_input stated = option_map_or needs_input stated false
+
+-- where input is needed, all bytes that the source has, and no more than a scenario may have; else nothing
+abbrev pub IsInput : Bool → Option (List ℕ) → List ℕ → Type 0
+IsInput true left input = (left ≡ Some input) × (length input ≤ MOST_INPUT_BYTES)
+IsInput false left input = input ≡ []
+
+-- the words state a job, and it isn't refused for the input that the source has; where it needs none it may have any
+pub record IsAccepted {J : Type 0} (needs_input : J → Bool) (stated : Option J) (refusal : J → List ℕ → Option (List ℕ)) (left : Option (List ℕ)) : Type 0 where
   pub job : J
   pub stated_so : stated ≡ Some job
-  pub within : length input ≤ MOST_INPUT_BYTES
+  pub input : List ℕ
+  pub there : IsInput (needs_input job) left input
   pub accepted : refusal job input ≡ None

@@ -1,3 +1,2 @@
-pub mod NotYet
 pub mod Readings
 pub mod Ends

@@ -3,13 +3,12 @@
 
 mod end;
 mod input;
-mod not_yet;
 mod reading;
 mod response;
 mod words;
 
 pub use end::{READ_FAULT, TOO_LONG, USAGE, early, without_memory, write_done, write_refused};
 pub use input::read_input;
-pub use reading::{Reading, read, read_to_play};
+pub use reading::{Reading, read};
 pub use response::Response;
 pub use words::words_of;

@@ -2,9 +2,8 @@
 ghost use Rattle.std.specs.Prelude.{◌≡◌, ◌≢◌, IfOk, OnOk};
 ghost use Rattle.stx_scenario.specs.Memory.{no_memory};
 ghost use Rattle.stx_refusals.specs.Refusals.{refusal_text as text_of_refusal};
-ghost use Rattle.stx_tool.specs.Readings.{IsReading, IsReadingToPlay};
+ghost use Rattle.stx_tool.specs.Readings.{IsReading};
 
-use crate::not_yet::{not_yet, not_yet_text};
 use std::alloc::Global;
 use stx_read::{ReadFault, read_scenario};
 use stx_report::refusal_text;
@@ -15,7 +14,7 @@ use stx_scenario::{NoMemory, Scenario};
 pub enum Reading {
     /// A valid scenario.
     Accepted(Scenario),
-    /// None, or one that isn't to be played yet: the refusal's text.
+    /// None: the refusal's text.
     Refused(Vec<u8>),
 }
 
@@ -26,21 +25,6 @@ pub fn read(alloc: Global, bytes: &[u8]) -> Result<Reading, NoMemory>
     match read_scenario(alloc, bytes) {
         Ok(scenario) => Ok(Reading::Accepted(scenario)),
         Err(fault) => Ok(Reading::Refused(refusal(alloc, &fault)?)),
-    }
-}
-
-/// Reads a scenario that is to be played, all of whose forms are played so far.
-#[tactic(auto, using(crate::proofs::PlayableLaws::refused_too, crate::proofs::PlayableLaws::playable))]
-pub fn read_to_play(alloc: Global, bytes: &[u8]) -> Result<Reading, NoMemory>
-    ensures { IfOk result (λ reading. IsReadingToPlay bytes.now reading) }
-{
-    let scenario = match read(alloc, bytes)? {
-        Reading::Accepted(scenario) => scenario,
-        Reading::Refused(text) => return Ok(Reading::Refused(text)),
-    };
-    match not_yet(alloc, &scenario)? {
-        None => Ok(Reading::Accepted(scenario)),
-        Some(path) => Ok(Reading::Refused(not_yet_text(alloc, &path)?)),
     }
 }
 

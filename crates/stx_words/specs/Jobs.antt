@@ -1,9 +1,9 @@
 -- The jobs that the words after a program's name state, by `clap`'s own definition of what it makes of them.
-use Rattle.std.specs.Prelude.{Bool, true, false, if◌then◌else◌, ℕ, List, [], ◌∷◌, codes, map, Option, Some, None, option_and_then, String, string_bytes}
+use Rattle.std.specs.Prelude.{if◌then◌else◌, ℕ, List, [], ◌∷◌, codes, map, Option, Some, None, option_and_then, String, string_bytes}
 use Rattle.std.specs.Str.{bytes_eq}
 use Rattle.std.specs.declared.alloc.Global.{Global}
 use Rattle.clap.specs.Words.{App, Kinds, Row, fault_of, matches_of, with_rule}
-use Rattle.stx_words.specs.Options.{plain_app, do_rule, seed_rule, clients_rule, job_in, seed_in, clients_in}
+use Rattle.stx_words.specs.Options.{plain_app, do_rule, seed_rule, clients_rule, job_in, seed_in, clients_in, IsClientCount}
 use Rattle.stx_words.specs.declared.job.Job.{Job}
 use Rattle.stx_words.specs.declared.run_job.RunJob.{RunJob}
 
@@ -16,19 +16,14 @@ job_named rows word =
     else (if bytes_eq word (codes "load") then Some (Job.Load (seed_in rows) (clients_in rows))
     else None)))
 
--- the jobs that the program does so far
-abbrev pub is_built : Job → Bool
-is_built Job.Play = true
-is_built Job.Check = true
-is_built Job.Rules = true
-is_built _ = false
-
-abbrev pub if_built : Job → Option Job
-if_built job = if is_built job then Some job else None
-
 -- the job that the values of the options state
 abbrev pub job_by : List Row → Option Job
-job_by rows = option_and_then if_built (option_and_then (job_named rows) (job_in rows))
+job_by rows = option_and_then (job_named rows) (job_in rows)
+
+-- a load has a count of clients that can be
+abbrev pub HasClients : Job → Type 0
+HasClients (Job.Load seed clients) = IsClientCount clients
+HasClients _ = Unit {0}
 
 -- the job of `springtx_run` that a word under `--do` names
 abbrev pub run_job_named : List Row → List ℕ → Option RunJob
@@ -40,6 +35,10 @@ run_job_named rows word =
 -- the job that the values of the options state
 abbrev pub run_job_by : List Row → Option RunJob
 run_job_by rows = option_and_then (run_job_named rows) (job_in rows)
+
+abbrev pub RunHasClients : RunJob → Type 0
+RunHasClients (RunJob.Load seed clients) = IsClientCount clients
+RunHasClients RunJob.Run = Unit {0}
 
 -- the command line of a program of this name, without groups of options and rules between them
 abbrev pub app_named : List ℕ → App

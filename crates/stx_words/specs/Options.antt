@@ -1,5 +1,5 @@
 -- The options of the command line, as `clap` knows them: how each is declared, and what it says.
-use Rattle.std.specs.Prelude.{ℕ, ◌-◌, ◌^◌, ◌&&◌, true, nat_lt, if◌then◌else◌, List, [], ◌∷◌, codes, Option, Some, None, option_and_then, unwrap_or, pos}
+use Rattle.std.specs.Prelude.{ℕ, ◌-◌, ◌^◌, ◌≤◌, ◌&&◌, true, nat_le, nat_lt, if◌then◌else◌, List, [], ◌∷◌, codes, Option, Some, None, option_and_then, unwrap_or, pos}
 use Rattle.std.specs.Str.Parse.{digits_value, without_leading_plus}
 use Rattle.clap.specs.ValueTests.{is_numeral}
 use Rattle.clap.specs.Simple.{on_top}
@@ -36,8 +36,12 @@ number_in bits text =
     let digits = without_leading_plus text in
     if is_numeral digits && nat_lt (digits_value 10 digits) (2 ^ bits) then Some (digits_value 10 digits) else None
 
--- What the matches of a command line have under each option. Defaults are among the matches; where there were none,
--- the numbers would be the same.
+-- the number, where it is a count of clients
+abbrev pub client_count : ℕ → Option ℕ
+client_count n = if nat_le 1 n && nat_le n 64 then Some n else None
+
+-- What the matches of a command line have under each option. Defaults are among the matches, and numbers out of range are
+-- not; where it were otherwise, the defaults would stand.
 abbrev pub job_in : List Row → Option (List ℕ)
 job_in rows = first_of (codes "do") rows
 
@@ -45,4 +49,9 @@ abbrev pub seed_in : List Row → ℕ
 seed_in rows = unwrap_or (option_and_then (number_in 64) (one_of (codes "seed") rows)) 1
 
 abbrev pub clients_in : List Row → ℕ
-clients_in rows = unwrap_or (option_and_then (number_in 32) (one_of (codes "clients") rows)) 4
+clients_in rows = unwrap_or (option_and_then client_count (option_and_then (number_in 32) (one_of (codes "clients") rows))) 4
+
+-- so many clients can be
+pub record IsClientCount (n : ℕ) : Type 0 where
+  pub some : 1 ≤ n
+  pub few : n ≤ 64

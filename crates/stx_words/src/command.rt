@@ -1,7 +1,7 @@
 // The command lines of the programs, and the jobs that they give.
-ghost use Rattle.std.specs.Prelude.{◌≡◌, IfOk, IfErr, Some, None, true};
+ghost use Rattle.std.specs.Prelude.{◌≡◌, IfOk, IfErr, Some, None};
 ghost use Rattle.clap.specs.Words.{app_of};
-ghost use Rattle.stx_words.specs.Jobs.{app_named, job_of, run_job_of, is_built};
+ghost use Rattle.stx_words.specs.Jobs.{app_named, job_of, run_job_of, HasClients, RunHasClients};
 
 use crate::job::job_by;
 use crate::matches::{matches_from, with_name};
@@ -18,7 +18,7 @@ use stx_scenario::NoMemory;
 /// An option that the job doesn't use may be given, and its value must be in form all the same.
 pub fn read_words(alloc: Global, words: &[String]) -> Result<Job, WordsFault>
     ensures ok { IfOk result (λ job. job_of words.now ≡ Some job) }
-    ensures built { IfOk result (λ job. is_built job ≡ true) }
+    ensures clients { IfOk result (λ job. HasClients job) }
     ensures usage { IfErr result (λ fault. fault ≡ WordsFault.Usage → job_of words.now ≡ None) }
 {
     let all = with_name(alloc, "springtx", words)?;
@@ -31,6 +31,7 @@ pub fn read_words(alloc: Global, words: &[String]) -> Result<Job, WordsFault>
 /// The job that the words after the name of `springtx_run` state, by the same options.
 pub fn read_run_words(alloc: Global, words: &[String]) -> Result<RunJob, WordsFault>
     ensures ok { IfOk result (λ job. run_job_of words.now ≡ Some job) }
+    ensures clients { IfOk result (λ job. RunHasClients job) }
     ensures usage { IfErr result (λ fault. fault ≡ WordsFault.Usage → run_job_of words.now ≡ None) }
 {
     let all = with_name(alloc, "springtx_run", words)?;

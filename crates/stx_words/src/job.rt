@@ -1,7 +1,7 @@
 // The jobs, each named by its word under `--do`.
-ghost use Rattle.std.specs.Prelude.{◌≡◌, IfSome, true};
+ghost use Rattle.std.specs.Prelude.{◌≡◌, IfSome};
 ghost use Rattle.clap.specs.Words.{found_of, rows_of};
-ghost use Rattle.stx_words.specs.Jobs.{is_built, job_named, job_by};
+ghost use Rattle.stx_words.specs.Jobs.{job_named, job_by, HasClients};
 
 use crate::options::{clients_in, job_in, seed_in};
 use clap::ArgMatches;
@@ -22,14 +22,14 @@ pub enum Job {
 /// The job that the values of the options state.
 pub(crate) fn job_by(matches: &ArgMatches<'_>) -> Option<Job>
     ensures job { result ≡ job_by (rows_of (found_of matches.now)) }
-    ensures built { IfSome result (λ job. is_built job ≡ true) }
+    ensures clients { IfSome result (λ job. HasClients job) }
 {
-    let job = job_named(job_in(matches)?, matches)?;
-    if is_built(job) { Some(job) } else { None }
+    job_named(job_in(matches)?, matches)
 }
 
 fn job_named(word: &str, matches: &ArgMatches<'_>) -> Option<Job>
-    ensures { result ≡ job_named (rows_of (found_of matches.now)) word.now }
+    ensures job { result ≡ job_named (rows_of (found_of matches.now)) word.now }
+    ensures clients { IfSome result (λ job. HasClients job) }
 {
     match word {
         "play" => Some(Job::Play),
@@ -40,17 +40,5 @@ fn job_named(word: &str, matches: &ArgMatches<'_>) -> Option<Job>
             clients: clients_in(matches),
         }),
         _ => None,
-    }
-}
-
-/// Whether the program does this job so far.
-fn is_built(job: Job) -> bool
-    ensures { result ≡ is_built job }
-{
-    match job {
-        Job::Play => true,
-        Job::Check => true,
-        Job::Rules => true,
-        _ => false,
     }
 }

@@ -1,7 +1,7 @@
 // The options of the command line, each as it is declared and as its value is read.
-ghost use Rattle.std.specs.Prelude.{◌≡◌, false, option_map};
+ghost use Rattle.std.specs.Prelude.{◌≡◌, false, option_and_then, option_map, unwrap_or};
 ghost use Rattle.clap.specs.Words.{app_of, found_of, rows_of, rule_of};
-ghost use Rattle.stx_words.specs.Options.{plain_app, do_rule, seed_rule, clients_rule, job_in, seed_in, clients_in};
+ghost use Rattle.stx_words.specs.Options.{plain_app, do_rule, seed_rule, clients_rule, job_in, seed_in, clients_in, client_count, IsClientCount};
 
 use clap::{Arg, ArgMatches, Command, value_parser};
 use std::alloc::Global;
@@ -57,9 +57,20 @@ pub(crate) fn seed_in(matches: &ArgMatches<'_>) -> u64
     matches.get_one("seed").unwrap_or(1)
 }
 
-/// The number under `--clients`.
+/// The number under `--clients`, from 1 to 64.
 pub(crate) fn clients_in(matches: &ArgMatches<'_>) -> u32
-    ensures { result ≡ clients_in (rows_of (found_of matches.now)) }
+    ensures number { result ≡ clients_in (rows_of (found_of matches.now)) }
+    ensures range { IsClientCount result }
 {
-    matches.get_one("clients").unwrap_or(4)
+    count_or_default(matches.get_one("clients"))
+}
+
+fn count_or_default(number: Option<u32>) -> u32
+    ensures number { result ≡ unwrap_or (option_and_then client_count number) 4 }
+    ensures range { IsClientCount result }
+{
+    match number {
+        Some(count) if 1 <= count && count <= 64 => count,
+        _ => 4,
+    }
 }

@@ -9,17 +9,16 @@ use Rattle.stx_base.specs.Limits.{most_calls}
 use Rattle.stx_base.specs.declared.call.Want.{Want}
 use Rattle.stx_base.specs.declared.line.Line.{Line}
 use Rattle.stx_base.specs.declared.manager.Action.{Action}
-use Rattle.stx_model.specs.Contexts.{Context, with_global_mark}
+use Rattle.stx_model.specs.Contexts.{with_global_mark}
 use Rattle.stx_model.specs.Meanings.{State, Result, Meaning, ask, finally, with_context}
 use Rattle.stx_model.specs.Scopes.{acts, live_in}
 use Rattle.stx_model.specs.Statements.{caught}
 use Rattle.stx_context.specs.Carrying.{Carried, context_of}
-use Rattle.stx_machine.specs.declared.completion.Intercepted.{Intercepted}
 use Rattle.stx_machine.specs.declared.interception.Phase.{Phase}
 use Rattle.stx_machine.specs.declared.machine.Machine.{Machine}
 use Rattle.stx_machine.specs.declared.stage.Stage.{Stage}
 use Rattle.stx_machine.specs.declared.tokens.Tokens.{Tokens}
-use Rattle.stx_machine.specs.Machine.{Call, later_calls, resume, stack, inside, scope_of, acts_of, put_back, context_at, live_of, state_before, state_with}
+use Rattle.stx_machine.specs.Machine.{Call, later_calls, resume, stack, inside, scope_of, acts_of, put_back, context_at, state_before, state_with}
 use Rattle.stx_machine.specs.Sound.{CallCompletes, CallsRun, IsApart, IsIntercepted, IsSound, Standing, StageFits, below_rest, due_in, ends_syncs, one_less, standing_of, standing_under, with_connection, without_own}
 use Rattle.stx_machine.proofs.Standings.{due_given, due_released, pushed_sound, shelters_all, under_some}
 use Rattle.stx_machine.proofs.Endings.{after_commit, after_completion, before_completion}
@@ -194,10 +193,15 @@ returns-in-GiveBack-clause-sound c =
     let holding : Tokens → Tokens = λ t. record t { connection = Some c.part-bound.result.connection } in
     let held : after.tokens ≡ with_connection c.part-bound.result.connection = parts.connection ∙ ap holding c.requires.apart.holds in
     let fits : (carried : Carried) → parted ≡ carried → StageFits S (Stage.GivingBack c.part-bound.result) carried (put_back call (Phase.Completing c.args.rest c.args.thrown) ∷ stack m.frames) =
-    λ carried is. subst (λ k. StageFits S (Stage.GivingBack c.part-bound.result) k (put_back call (Phase.Completing c.args.rest c.args.thrown) ∷ stack m.frames)) is
-    ((completing.call, subst (λ a. IsIntercepted S call.method (scope.owns && ends_syncs (a ∷ rest)) standing.syncs) c.in-GiveBack.is completing.intercepted, (due.0, completing.class),
-      subst (λ s. CallsRun S s (stack m.frames)) (under_some scope.suspended _ _ due.2) c.requires.apart.calls),
-     (due.1, due.2)) in
+    λ carried is. subst (λ k. StageFits S (Stage.GivingBack c.part-bound.result) k (put_back call (Phase.Completing c.args.rest c.args.thrown) ∷ stack m.frames)) is (
+      (
+        completing.call,
+        subst (λ a. IsIntercepted S call.method (scope.owns && ends_syncs (a ∷ rest)) standing.syncs) c.in-GiveBack.is completing.intercepted,
+        (due.0, completing.class),
+        subst (λ s. CallsRun S s (stack m.frames)) (under_some scope.suspended _ _ due.2) c.requires.apart.calls,
+      ),
+      (due.1, due.2),
+    ) in
     pushed_sound S after c.put_back-in-GiveBack.new.self (put_back call (Phase.Completing c.args.rest c.args.thrown)) (Stage.GivingBack c.part-bound.result) _ c.put_back-in-GiveBack.ensures
     (subst (λ z. StageFits S (Stage.GivingBack c.part-bound.result) z.context (put_back call (Phase.Completing c.args.rest c.args.thrown) ∷ stack z.frames)) (sym parts.rest) (fits after.context (sym parts.context)))
     (subst (λ z. z.top < most_calls) (sym parts.rest) c.requires.apart.top) held
@@ -219,9 +223,12 @@ returns-in-ReleasePoint-clause-sound c =
     (subst (λ a. due_in scope standing (a ∷ rest) ≡ true) c.in-ReleasePoint.is completing.due) in
     let top : Call = put_back call (Phase.Completing c.args.rest c.args.thrown) in
     let calls = subst (λ a. CallsRun S (below_rest scope (a ∷ rest) standing) (stack m.frames)) c.in-ReleasePoint.is c.requires.apart.calls in
-    let fits : CallCompletes S released (top ∷ stack m.frames) =
-    (completing.call, subst (λ a. IsIntercepted S call.method (scope.owns && ends_syncs (a ∷ rest)) standing.syncs) c.in-ReleasePoint.is completing.intercepted, (due.2, completing.class),
-     subst (λ b. CallsRun S (standing_under scope.suspended (without_own b (scope.owns && ends_syncs rest) released)) (stack m.frames)) (sym due.1) calls) in
+    let fits : CallCompletes S released (top ∷ stack m.frames) = (
+      completing.call,
+      subst (λ a. IsIntercepted S call.method (scope.owns && ends_syncs (a ∷ rest)) standing.syncs) c.in-ReleasePoint.is completing.intercepted,
+      (due.2, completing.class),
+      subst (λ b. CallsRun S (standing_under scope.suspended (without_own b (scope.owns && ends_syncs rest) released)) (stack m.frames)) (sym due.1) calls,
+    ) in
     let now : released ≡ standing_of after.context = λ k. record { bond = sym leaves.bond k; syncs = (sym leaves.context k).syncs } in
     pushed_sound S after c.put_back-in-ReleasePoint.new.self top (Stage.Releasing t) _ c.put_back-in-ReleasePoint.ensures
     (subst (λ z. CallCompletes S (standing_of after.context) (top ∷ stack z.frames)) (sym leaves.rest) (subst (λ s. CallCompletes S s (top ∷ stack m.frames)) now fits))

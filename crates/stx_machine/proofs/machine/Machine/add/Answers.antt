@@ -1,10 +1,7 @@
 -- The sum is written, or is no value.
-use Rattle.std.proofs.Common.{rules, ◌≡◌, ◌∙◌, ℤ, List, Some, None, sym, ap, FitsSigned, w64}
+use Rattle.std.proofs.Common.{rules, ◌≡◌, ◌∙◌, Some, None, sym, ap, FitsSigned, w64}
 use Rattle.std.proofs.Math.Facts.{to_z-of_z}
-use Rattle.stx_scenario.specs.declared.scenario.Scenario.{Scenario}
 use Rattle.stx_base.specs.declared.history.Access.{Access}
-use Rattle.stx_base.specs.declared.history.PoolNote.{PoolNote}
-use Rattle.stx_base.specs.declared.history.StoreNote.{StoreNote}
 use Rattle.stx_model.specs.Meanings.{Result}
 use Rattle.stx_model.specs.Statements.{value_of, access_row, nothing_more}
 use Rattle.stx_machine.specs.Machine.{later_calls, resume, stack, row_access, state_before, sum_of}

@@ -1,9 +1,8 @@
 -- The scope is open on its transaction.
-use Rattle.std.proofs.Common.{◌≡◌, ◌∙◌, ◌∷◌, List, Some, None, sym, ap, subst}
+use Rattle.std.proofs.Common.{◌≡◌, ◌∙◌, sym, ap, subst}
 use Rattle.std.specs.Option.{option_map}
-use Rattle.stx_base.specs.declared.manager.Kind.{Kind}
 use Rattle.stx_model.specs.Contexts.{Context, bare}
-use Rattle.stx_model.specs.Meanings.{State, Result, finally}
+use Rattle.stx_model.specs.Meanings.{Result, finally}
 use Rattle.stx_model.specs.Scopes.{in_scope, fresh_context}
 use Rattle.stx_model.specs.Statements.{caught}
 use Rattle.stx_context.specs.Carrying.{context_of}

@@ -17,7 +17,7 @@ returns-then-owns-clause-goes c S n pool store =
     let owned : call.interception.scope.owns ≡ true = sym c.owns.ensures ∙ c.if-owns.true in
     ap
     (λ owns. later_calls S n m.top (resume S (stack m.frames)
-     (finally (finally (round_if S (inside S call.method) owns course.round course.committed (state_before m pool store)) (after_round S call.method call.interception course))
-      (caught S call.catch))))
+    (finally (finally (round_if S (inside S call.method) owns course.round course.committed (state_before m pool store)) (after_round S call.method call.interception course))
+    (caught S call.catch))))
     owned
     ∙ put_on S n m c.put_back.new.self (put_back call (Phase.Round course)) Stage.Rounding pool store c.put_back.ensures

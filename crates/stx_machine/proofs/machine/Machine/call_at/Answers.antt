@@ -1,12 +1,12 @@
 -- The call at the place, or the end.
-use Rattle.std.proofs.Common.{◌≡◌, ◌∙◌, ◌++◌, ◌∷◌, [], List, Some, None, refl, sym, ap}
+use Rattle.std.proofs.Common.{◌≡◌, ◌∙◌, [], List, None, sym, ap}
 use Rattle.std.specs.Prelude.{reverse}
 use Rattle.std.specs.Option.{option_copied}
 use Rattle.stx_base.specs.declared.line.Line.{Line}
-use Rattle.stx_model.specs.Meanings.{State, Result}
+use Rattle.stx_model.specs.Meanings.{Result}
 use Rattle.stx_machine.specs.declared.stage.Stage.{Stage}
-use Rattle.stx_machine.specs.Machine.{Call, later_calls, piece, resume, stack, state_before, called}
-use Rattle.stx_machine.proofs.Places.{is_method, is_early, is_low}
+use Rattle.stx_machine.specs.Machine.{later_calls, piece, resume, stack, state_before, called}
+use Rattle.stx_machine.proofs.Places.{is_low}
 use Rattle.stx_machine.proofs.TopLaws.{no_call, one_call}
 use Rattle.stx_machine.proofs.machine.Machine.call_at.Goals as goal
 

@@ -1,7 +1,6 @@
 -- The end of the scope is said, and its completion is due.
-use Rattle.std.proofs.Common.{◌≡◌, ◌∙◌, [], List, true, sym, ap, subst}
+use Rattle.std.proofs.Common.{◌≡◌, ◌∙◌, List, true, sym, ap, subst}
 use Rattle.stx_base.specs.declared.line.Line.{Line}
-use Rattle.stx_base.specs.declared.manager.Ending.{Ending}
 use Rattle.stx_model.specs.Ending.{ending}
 use Rattle.stx_model.specs.Meanings.{State, Result, say, finally}
 use Rattle.stx_model.specs.Scopes.{completes, ends, rolls, is_set}
@@ -10,7 +9,7 @@ use Rattle.stx_context.specs.Carrying.{context_of}
 use Rattle.stx_machine.specs.declared.completion.Intercepted.{Intercepted}
 use Rattle.stx_machine.specs.declared.interception.Interception.{Interception}
 use Rattle.stx_machine.specs.declared.machine.Machine.{Machine}
-use Rattle.stx_machine.specs.Machine.{later_calls, resume, stack, inside, attribute_of, scope_of, completes_of, state_before}
+use Rattle.stx_machine.specs.Machine.{later_calls, resume, stack, inside, attribute_of, scope_of, state_before}
 use Rattle.stx_machine.specs.Sound.{IsApart, IsEndingSo, below_scope, may_end, rank_at, standing_of}
 use Rattle.stx_machine.proofs.Endings.{ends_so}
 use Rattle.stx_machine.proofs.machine.Machine.end.Goals as goal

@@ -1,6 +1,6 @@
 -- What was suspended is carried again, and is to be told before the call is refused.
-use Rattle.std.proofs.Common.{◌≡◌, ◌∙◌, ◌∷◌, List, Some, None, refl, sym, ap, subst}
-use Rattle.std.specs.Prelude.{IsSome, ◌<◌}
+use Rattle.std.proofs.Common.{◌≡◌, ◌∙◌, ◌∷◌, Some, None, sym, ap, subst}
+use Rattle.std.specs.Prelude.{◌<◌}
 use Rattle.std.specs.Option.{option_map}
 use Rattle.stx_scenario.specs.declared.classes.TheConstants.{CANNOT_CREATE_TRANSACTION_EXCEPTION}
 use Rattle.stx_base.specs.Limits.{most_calls}
@@ -13,7 +13,7 @@ use Rattle.stx_machine.specs.declared.completion.Intercepted.{Intercepted}
 use Rattle.stx_machine.specs.declared.interception.Phase.{Phase}
 use Rattle.stx_machine.specs.declared.machine.Machine.{Machine}
 use Rattle.stx_machine.specs.declared.stage.Stage.{Stage}
-use Rattle.stx_machine.specs.Machine.{HasSuspended, later_calls, resume, stack, begun, finds_none, phase_after, put_back, state_before, tells_resumed}
+use Rattle.stx_machine.specs.Machine.{later_calls, resume, stack, begun, finds_none, phase_after, put_back, state_before, tells_resumed}
 use Rattle.stx_machine.specs.Sound.{CallOpens, CallResumes, CallsRun, OpensIn, nothing, standing_of, standing_under}
 use Rattle.stx_machine.proofs.Stacks.{opens_only, put_on, resumes_some}
 use Rattle.stx_machine.proofs.Standings.{pushed_sound}

@@ -1,5 +1,5 @@
 -- The innermost body goes on, or the client does.
-use Rattle.std.proofs.Common.{◌≡◌, ◌∙◌, ◌∷◌, [], List, Some, refl, sym, ap, subst}
+use Rattle.std.proofs.Common.{◌≡◌, ◌∙◌, ◌∷◌, [], Some, refl, sym, ap, subst}
 use Rattle.std.specs.Prelude.{reverse}
 use Rattle.stx_model.specs.Meanings.{Result, Over}
 use Rattle.stx_frames.specs.declared.frame.Frame.{Frame}
@@ -96,3 +96,14 @@ returns-in-Some-Round-clause-goes c pool store =
     ∙ ap (at m) told
     ∙ ap (λ z. at z t) (sym takes.rest)
     ∙ c.go_on_round.ensures.goes n pool store
+
+pub returns-in-Some-Now-clause-goes : goal.returns-in-Some-Now-clause-goes
+unfolding resume
+returns-in-Some-Now-clause-goes c pool store =
+    let S = c.args.setup.now.scenario in
+    let m = c.args.self.now in
+    let w = c.in-Some-Now in
+    let top : stack m.frames ≡ Frame.Now w.listener w.place ∷ stack c.pop.new.self =
+    popped m.frames c.pop.new.self c.pop.result c.pop.ensures.items ∙ ap (λ t. with_top t (stack c.pop.new.self)) (w.is ∙ ap Some w.field-0-is) in
+    ap (λ fs. later_calls S c.args.number m.top (resume S fs (Over c.args.thrown (state_before m pool store)))) top
+    ∙ c.go_on_listener.ensures.goes c.args.number pool store

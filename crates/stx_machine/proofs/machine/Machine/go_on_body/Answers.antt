@@ -1,5 +1,5 @@
 -- The next statement, or the end of the call.
-use Rattle.std.proofs.Common.{◌≡◌, ◌∙◌, ◌+◌, Option, Some, None, refl, sym, ap, subst, arith}
+use Rattle.std.proofs.Common.{◌∙◌, ◌+◌, refl, ap, subst}
 use Rattle.stx_base.specs.Weight.{body_of}
 use Rattle.stx_model.specs.Meanings.{Result, Over, finally}
 use Rattle.stx_model.specs.Script.{statement}
@@ -7,7 +7,7 @@ use Rattle.stx_model.specs.Statements.{caught}
 use Rattle.stx_frames.specs.declared.frame.Frame.{Frame}
 use Rattle.stx_machine.specs.Machine.{later_calls, resume, stack, call_after, inside, state_before}
 use Rattle.stx_machine.specs.Sound.{IsNext, ScopeRuns, standing_of}
-use Rattle.stx_machine.proofs.BodyLaws.{may_at, few_at, goes_on, ends_unscoped, ends_scoped, moves_from}
+use Rattle.stx_machine.proofs.BodyLaws.{may_at, goes_on, ends_unscoped, ends_scoped, moves_from}
 use Rattle.stx_machine.proofs.Stacks.{resume_pushed}
 use Rattle.stx_machine.proofs.machine.Machine.go_on_body.Goals as goal
 

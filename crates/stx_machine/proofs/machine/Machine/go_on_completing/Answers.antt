@@ -1,12 +1,11 @@
 -- The call on top completes.
-use Rattle.std.proofs.Common.{◌∙◌, ◌∷◌, List, sym, ap}
+use Rattle.std.proofs.Common.{◌∙◌, sym, ap}
 use Rattle.stx_model.specs.Meanings.{Result, finally}
 use Rattle.stx_model.specs.Scopes.{acts}
 use Rattle.stx_model.specs.Statements.{caught}
-use Rattle.stx_machine.specs.declared.interception.Phase.{Phase}
 use Rattle.stx_machine.specs.declared.machine.Machine.{Machine}
 use Rattle.stx_machine.specs.declared.stage.Stage.{Stage}
-use Rattle.stx_machine.specs.Machine.{Call, later_calls, resume, stack, of_top, inside, scope_of, phase_after, rest_of, thrown_of, acts_of, state_before}
+use Rattle.stx_machine.specs.Machine.{later_calls, resume, stack, of_top, inside, scope_of, phase_after, rest_of, thrown_of, acts_of, state_before}
 use Rattle.stx_machine.proofs.machine.Machine.go_on_completing.Goals as goal
 
 pub returns-clause-goes : goal.returns-clause-goes

@@ -1,9 +1,7 @@
 -- A round before the completion, or the completion at once.
-use Rattle.std.proofs.Common.{◌≡◌, ◌∙◌, true, false, List, sym, ap, subst}
+use Rattle.std.proofs.Common.{◌≡◌, ◌∙◌, true, sym, ap, subst}
 use Rattle.std.specs.Prelude.{◌&&◌}
 use Rattle.std.specs.Option.{is_some}
-use Rattle.stx_base.specs.declared.manager.Action.{Action}
-use Rattle.stx_base.specs.declared.manager.Kind.{Kind}
 use Rattle.stx_base.specs.declared.manager.Round.{Round}
 use Rattle.stx_model.specs.Ending.{completion, has_before_commit}
 use Rattle.stx_model.specs.Meanings.{Result, finally}
@@ -67,7 +65,7 @@ returns-else-has_before_commit-clause-sound c S so apart =
       intercepted = record {
         attribute = so.intercepted.attribute;
         shelters = subst (λ b. Shelters S c.args.call.method b standing.syncs) (owned_ends scope.kind c.args.ending scope.owns (is_some scope.suspended) standing so.possible so.own
-        ∙ ap (λ rest. scope.owns && ends_syncs rest) left) so.intercepted.shelters;
+            ∙ ap (λ rest. scope.owns && ends_syncs rest) left) so.intercepted.shelters;
       };
       due = subst (λ rest. due_in scope standing rest ≡ true) left (due_at_end scope standing c.args.ending so.possible so.own);
       class = so.class;

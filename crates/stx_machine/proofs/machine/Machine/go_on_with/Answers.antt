@@ -1,9 +1,9 @@
 -- The call is on top, with what is left of its completion.
-use Rattle.std.proofs.Common.{◌∙◌, ◌∷◌, List, sym, ap}
+use Rattle.std.proofs.Common.{◌∙◌, List, sym, ap}
 use Rattle.stx_model.specs.Meanings.{Result}
 use Rattle.stx_machine.specs.declared.interception.Phase.{Phase}
 use Rattle.stx_machine.specs.declared.stage.Stage.{Stage}
-use Rattle.stx_machine.specs.Machine.{Call, later_calls, resume, stack, piece, put_back, run, state_before}
+use Rattle.stx_machine.specs.Machine.{Call, later_calls, resume, piece, put_back, run, state_before}
 use Rattle.stx_machine.proofs.Stacks.{pushed}
 use Rattle.stx_machine.proofs.machine.Machine.go_on_with.Goals as goal
 

@@ -1,5 +1,5 @@
 -- The transaction that is bound is marked.
-use Rattle.std.proofs.Common.{◌≡◌, ◌∙◌, List, sym, ap}
+use Rattle.std.proofs.Common.{◌∙◌, List, sym, ap}
 use Rattle.stx_base.specs.declared.line.Line.{Line}
 use Rattle.stx_model.specs.Meanings.{State, Result, say}
 use Rattle.stx_model.specs.Scopes.{acts}

@@ -1,11 +1,9 @@
 -- Each opening of the table.
-use Rattle.std.proofs.Common.{◌≡◌, ◌∙◌, Bool, true, false, Some, None, refl, sym, ap}
+use Rattle.std.proofs.Common.{◌∙◌, sym, ap}
 use Rattle.stx_base.specs.declared.call.Want.{Want}
-use Rattle.stx_base.specs.declared.manager.Kind.{Kind}
 use Rattle.stx_base.specs.declared.manager.Opening.{Opening}
-use Rattle.stx_model.specs.Meanings.{State, Result, ask, on_take, finally}
-use Rattle.stx_model.specs.Opening.{opening}
-use Rattle.stx_model.specs.Scopes.{opens, suspend, suspended}
+use Rattle.stx_model.specs.Meanings.{Result, ask, on_take, finally}
+use Rattle.stx_model.specs.Scopes.{opens}
 use Rattle.stx_model.specs.Statements.{caught}
 use Rattle.stx_context.specs.Carrying.{context_of}
 use Rattle.stx_machine.specs.Machine.{later_calls, resume, stack, inside, attribute_of, statements, started, fresh_begun, state_before}

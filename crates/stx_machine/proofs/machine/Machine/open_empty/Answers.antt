@@ -8,7 +8,6 @@ use Rattle.stx_model.specs.Meanings.{State, Result, finally}
 use Rattle.stx_model.specs.Scopes.{in_scope, empty, older_if}
 use Rattle.stx_model.specs.Statements.{caught}
 use Rattle.stx_context.specs.Carrying.{bare, context_of}
-use Rattle.stx_manager.specs.Scopes.{new_scope}
 use Rattle.stx_machine.specs.declared.machine.Machine.{Machine}
 use Rattle.stx_machine.specs.Machine.{later_calls, resume, stack, inside, attribute_of, statements, started, state_before, state_with}
 use Rattle.stx_machine.proofs.machine.Machine.open_empty.Goals as goal

@@ -1,5 +1,5 @@
 -- What was carried is held by the scope, which waits for a connection.
-use Rattle.std.proofs.Common.{◌≡◌, ◌∙◌, ◌∷◌, List, Some, None, false, sym, ap}
+use Rattle.std.proofs.Common.{◌≡◌, ◌∙◌, ◌∷◌, List, Some, sym, ap}
 use Rattle.stx_base.specs.declared.call.Want.{Want}
 use Rattle.stx_base.specs.declared.manager.Kind.{Kind}
 use Rattle.stx_model.specs.Meanings.{State, Result, ask, on_take, finally}
@@ -7,9 +7,8 @@ use Rattle.stx_model.specs.Statements.{caught}
 use Rattle.stx_manager.specs.Scopes.{OpenScope, new_scope}
 use Rattle.stx_context.specs.Carrying.{context_of}
 use Rattle.stx_machine.specs.declared.interception.Phase.{Phase}
-use Rattle.stx_machine.specs.declared.machine.Machine.{Machine}
 use Rattle.stx_machine.specs.declared.stage.Stage.{Stage}
-use Rattle.stx_machine.specs.Machine.{Call, later_calls, resume, stack, frame_after, fresh_begun, new_call, piece, run, state_before}
+use Rattle.stx_machine.specs.Machine.{Call, later_calls, resume, stack, fresh_begun, new_call, piece, run, state_before}
 use Rattle.stx_machine.proofs.Stacks.{pushed}
 use Rattle.stx_machine.proofs.machine.Machine.open_fresh.Goals as goal
 

@@ -1,15 +1,12 @@
 -- The call waits for its savepoint.
-use Rattle.std.proofs.Common.{◌≡◌, ◌∙◌, ◌∷◌, ℕ, List, Some, None, false, true, refl, sym, ap, subst}
+use Rattle.std.proofs.Common.{◌∙◌, ℕ, ap}
 use Rattle.stx_base.specs.declared.call.Want.{Want}
-use Rattle.stx_base.specs.declared.manager.Kind.{Kind}
-use Rattle.stx_model.specs.Meanings.{State, Result, Meaning, ask, finally}
+use Rattle.stx_model.specs.Meanings.{Result, Meaning, ask, finally}
 use Rattle.stx_model.specs.Statements.{caught}
 use Rattle.stx_context.specs.Carrying.{context_of}
-use Rattle.stx_manager.specs.Scopes.{new_scope}
 use Rattle.stx_machine.specs.declared.interception.Phase.{Phase}
-use Rattle.stx_machine.specs.declared.machine.Machine.{Machine}
 use Rattle.stx_machine.specs.declared.stage.Stage.{Stage}
-use Rattle.stx_machine.specs.Machine.{Call, later_calls, resume, stack, new_call, pointed, state_before}
+use Rattle.stx_machine.specs.Machine.{later_calls, resume, stack, new_call, pointed, state_before}
 use Rattle.stx_machine.proofs.Stacks.{live_is, put_on}
 use Rattle.stx_machine.proofs.machine.Machine.open_point.Goals as goal
 

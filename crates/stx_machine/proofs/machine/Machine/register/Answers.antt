@@ -1,9 +1,9 @@
 -- The registration is at the end of the list.
-use Rattle.std.proofs.Common.{◌≡◌, ◌∙◌, ◌++◌, ◌∷◌, [], List, Option, Some, None, refl, sym, ap, subst}
+use Rattle.std.proofs.Common.{List, Option, Some, sym, subst}
 use Rattle.std.specs.Option.{option_map}
 use Rattle.stx_model.specs.Contexts.{Registration}
 use Rattle.stx_machine.specs.Machine.{stack}
-use Rattle.stx_machine.specs.Sound.{CallsRun, Standing, bond_of, standing_of}
+use Rattle.stx_machine.specs.Sound.{CallsRun, Standing, bond_of}
 use Rattle.stx_machine.proofs.Registering.{registers_run}
 use Rattle.stx_machine.proofs.machine.Machine.register.Goals as goal
 

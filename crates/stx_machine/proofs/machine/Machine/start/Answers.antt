@@ -1,7 +1,7 @@
 -- The call is on top, and its body begins.
 use Rattle.std.proofs.Common.{◌≡◌, ◌∙◌, ◌++◌, ◌∷◌, [], List, Some, None, false, sym, ap}
 use Rattle.stx_base.specs.declared.line.Line.{Line}
-use Rattle.stx_model.specs.Meanings.{State, Result, Over}
+use Rattle.stx_model.specs.Meanings.{State, Over}
 use Rattle.stx_model.specs.Scopes.{in_scope}
 use Rattle.stx_context.specs.Carrying.{context_of}
 use Rattle.stx_machine.specs.declared.interception.Phase.{Phase}

@@ -1,12 +1,12 @@
 -- The nested scope is open on its savepoint.
-use Rattle.std.proofs.Common.{◌≡◌, ◌∙◌, ◌∷◌, List, Some, None, false, true, refl, sym, ap, subst}
+use Rattle.std.proofs.Common.{◌≡◌, ◌∙◌, None, false, refl, sym, ap, subst}
 use Rattle.std.specs.Prelude.{◌<◌}
 use Rattle.stx_base.specs.Limits.{most_calls}
 use Rattle.stx_base.specs.declared.manager.Kind.{Kind}
 use Rattle.stx_model.specs.Meanings.{State, Result, finally}
 use Rattle.stx_model.specs.Statements.{caught}
 use Rattle.stx_context.specs.Carrying.{context_of}
-use Rattle.stx_manager.specs.Scopes.{OpenScope, new_scope}
+use Rattle.stx_manager.specs.Scopes.{new_scope}
 use Rattle.stx_machine.specs.declared.machine.Machine.{Machine}
 use Rattle.stx_machine.specs.Machine.{later_calls, resume, stack, phase_after, pointed, started, starts_pointed, state_before, state_with}
 use Rattle.stx_machine.specs.Sound.{CallPoints, CallsRun, IsApart, IsCall, IsOpen, IsSound, PointsIn, Standing, below_scope, bond_of, no_tokens, one_more, rank_at, standing_of}

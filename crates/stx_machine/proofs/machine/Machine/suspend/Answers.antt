@@ -1,8 +1,7 @@
 -- The registrations are told, and then the connection is unbound.
-use Rattle.std.proofs.Common.{◌≡◌, ◌∙◌, ◌++◌, ◌≤◌, List, false, length, map, sym, ap, arith, length-append}
-use Rattle.stx_base.specs.declared.line.Line.{Line}
+use Rattle.std.proofs.Common.{◌∙◌, ◌≤◌, false, length, map, sym, ap, arith, length-append}
 use Rattle.stx_model.specs.Contexts.{bare}
-use Rattle.stx_model.specs.Meanings.{State, with_context}
+use Rattle.stx_model.specs.Meanings.{with_context}
 use Rattle.stx_model.specs.Scopes.{say_unbind}
 use Rattle.stx_context.specs.Carrying.{context_of}
 use Rattle.stx_context.specs.Carrying as carrying

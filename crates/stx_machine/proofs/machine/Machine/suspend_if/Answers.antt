@@ -1,6 +1,5 @@
 -- It is suspended.
-use Rattle.std.proofs.Common.{◌≡◌, ◌∙◌, length, true, sym, ap, subst}
-use Rattle.stx_context.specs.Carrying.{Carried}
+use Rattle.std.proofs.Common.{◌∙◌, length, sym, ap, subst}
 use Rattle.stx_machine.specs.Machine.{SuspendsIf}
 use Rattle.stx_machine.proofs.machine.Machine.suspend_if.Goals as goal
 

@@ -1,7 +1,7 @@
 -- The innermost call is an intercepted one.
-use Rattle.std.proofs.Common.{◌≡◌, ◌∙◌, [], sym, ap, subst}
+use Rattle.std.proofs.Common.{◌∙◌, sym, ap, subst}
 use Rattle.std.specs.Prelude.{reverse}
-use Rattle.stx_machine.specs.Machine.{IsIntercepting, stack}
+use Rattle.stx_machine.specs.Machine.{IsIntercepting}
 use Rattle.stx_machine.proofs.Stacks.{none_left}
 use Rattle.stx_machine.proofs.machine.Machine.take_off.Goals as goal
 

@@ -1,12 +1,12 @@
 -- What was suspended is carried again, and is to be told; where nothing was, nothing but the leaving is left.
-use Rattle.std.proofs.Common.{◌≡◌, ◌∙◌, ◌∷◌, [], List, Option, Some, None, true, refl, sym, ap, subst}
+use Rattle.std.proofs.Common.{◌≡◌, ◌∙◌, ◌∷◌, List, None, true, refl, sym, ap, subst}
 use Rattle.std.specs.Prelude.{IsSome, ◌<◌, ◌&&◌, false}
 use Rattle.std.specs.Option.{is_some, option_map}
 use Rattle.stx_base.specs.declared.manager.Action.{Action}
 use Rattle.stx_base.specs.Limits.{most_calls}
 use Rattle.stx_model.specs.Meanings.{State, Result}
 use Rattle.stx_model.specs.Scopes.{acts, resumed}
-use Rattle.stx_context.specs.Carrying.{Carried, context_of}
+use Rattle.stx_context.specs.Carrying.{context_of}
 use Rattle.stx_manager.specs.Scopes.{OpenScope}
 use Rattle.stx_machine.specs.declared.completion.Intercepted.{Intercepted}
 use Rattle.stx_machine.specs.declared.interception.Phase.{Phase}

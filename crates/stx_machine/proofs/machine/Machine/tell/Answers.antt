@@ -22,7 +22,7 @@ begins c =
       | in-AfterCompletion w ↦
           subst (Begins round off) (sym w.self-is)
           (subst (λ r. Begins r off w.end_syncs.new.self) (sym w.in-AfterCompletion.is)
-           (record { context = w.end_syncs.ensures.context; tx = w.end_syncs.ensures.tx; rest = w.end_syncs.ensures.rest }))
+          (record { context = w.end_syncs.ensures.context; tx = w.end_syncs.ensures.tx; rest = w.end_syncs.ensures.rest }))
       | in_default w ↦ subst (Begins round off) (sym w.self-is) (as_it_was round off w.in_default.not-AfterCompletion)
     ]
 

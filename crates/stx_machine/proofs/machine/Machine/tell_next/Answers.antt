@@ -51,5 +51,5 @@ returns-in-Some-clause-sound c =
     let within =
     within_told S said next after c.put_back_round.ensures (subst (λ z. IsTelling S (rank_at S z) next (standing_of z.context)) (sym same) telling)
     (subst (λ z. IsApart S z (below_round t.call.interception.scope t.course (standing_of z.context))) (sym same)
-     (record { calls = c.requires.apart.calls; top = c.requires.apart.top; holds = c.requires.apart.holds })) in
+    (record { calls = c.requires.apart.calls; top = c.requires.apart.top; holds = c.requires.apart.holds })) in
     record { stage = (tt, within.calls); top = within.top; holds = within.holds }

@@ -1,19 +1,17 @@
 -- The registrations are told; then the completion goes on, or the call is refused.
-use Rattle.std.proofs.Common.{◌≡◌, ◌∙◌, ◌++◌, ◌∷◌, [], List, Option, Some, None, true, false, refl, sym, ap, subst, arith}
+use Rattle.std.proofs.Common.{◌≡◌, ◌∙◌, ◌++◌, Some, true, sym, ap, subst, arith}
 use Rattle.std.specs.Prelude.{map, not, ◌<◌, ◌&&◌}
 use Rattle.std.specs.Option.{is_some}
 use Rattle.stx_scenario.specs.declared.classes.TheConstants.{CANNOT_CREATE_TRANSACTION_EXCEPTION}
 use Rattle.stx_base.specs.Limits.{most_calls}
 use Rattle.stx_base.specs.declared.line.Line.{Line}
 use Rattle.stx_model.specs.Meanings.{State, Result, finally, say}
-use Rattle.stx_model.specs.Scopes.{acts, leaves}
+use Rattle.stx_model.specs.Scopes.{leaves}
 use Rattle.stx_model.specs.Statements.{caught}
-use Rattle.stx_context.specs.Carrying.{context_of}
-use Rattle.stx_machine.specs.declared.interception.Phase.{Phase}
 use Rattle.stx_machine.specs.declared.machine.Machine.{Machine}
 use Rattle.stx_machine.specs.declared.stage.Stage.{Stage}
-use Rattle.stx_machine.specs.Machine.{acts_of, inside, later_calls, of_top, phase_after, resume, resumes_call, scope_of, stack, state_before, tells_resumed, told_line}
-use Rattle.stx_machine.specs.Sound.{CallResumes, CallsRun, IsApart, IsCompleting, IsSound, ResumesIn, Shelters, below_rest, due_in, ends_syncs, standing_of}
+use Rattle.stx_machine.specs.Machine.{acts_of, later_calls, of_top, phase_after, resume, resumes_call, stack, state_before, told_line}
+use Rattle.stx_machine.specs.Sound.{CallResumes, CallsRun, IsSound, ResumesIn, Shelters, below_rest, due_in, ends_syncs, standing_of}
 use Rattle.stx_machine.proofs.Places.{built_in_known}
 use Rattle.stx_machine.proofs.Standings.{below_none, unowned}
 use Rattle.stx_machine.proofs.Telling.{tells_lines, with_lines}
@@ -62,7 +60,7 @@ returns-in-Completing-clause-sound c S playable resumes top holds =
       class = ends.2;
     }) (record {
       calls = subst (λ rest. CallsRun S (below_rest scope rest standing) (stack off.frames)) last
-      (subst (λ s. CallsRun S s (stack off.frames)) (sym (below_none scope standing alone)) (subst (λ k. CallsRun S (standing_of k) (stack off.frames)) was here.3));
+          (subst (λ s. CallsRun S s (stack off.frames)) (sym (below_none scope standing alone)) (subst (λ k. CallsRun S (standing_of k) (stack off.frames)) was here.3));
       top = subst (λ z. z.top < most_calls) (sym c.take_off-call.ensures.rest) (subst (λ z. z.top < most_calls) (sym c.say_each.ensures.rest) top);
       holds = ap (λ z. z.tokens) c.take_off-call.ensures.rest ∙ ap (λ z. z.tokens) c.say_each.ensures.rest ∙ holds;
     }) in
@@ -70,7 +68,7 @@ returns-in-Completing-clause-sound c S playable resumes top holds =
 
 pub returns-in-Opening-clause-goes : goal.returns-in-Opening-clause-goes
 unfolding resume
-returns-in-Opening-clause-goes c S n pool store = 
+returns-in-Opening-clause-goes c S n pool store =
     let m = c.args.self.now in
     let st = state_before m pool store in
     let said = c.say_each.new.self in
