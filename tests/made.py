@@ -213,6 +213,39 @@ def additions_text(calls, count):
     return "\n".join(lines + ["journal"] + commits + ["rows", f"row a {value}", "end"]) + "\n"
 
 
+def most_lines(more=""):
+    """The heaviest scenario: four calls of a method that calls others, which only read; with `more`, one call of nothing too."""
+    bodies = [("b", "m", ["call c.a"] * 249 + ["call c.c"]), ("c", "a", ["read a"] * 198), ("c", "c", ["read a"] * 197)]
+    bodies += [("b", "n", [])] * bool(more)
+    return "\n".join([
+        'beans=[{name="b"},{name="c"}]',
+        "methods=" + array(
+            f'{{bean="{bean}",name="{name}",tx={{}},body={array(chr(34) + each + chr(34) for each in body)}}}'
+            for bean, name, body in bodies),
+        "clients=[{calls=" + array(['"b.m"'] * 4 + ['"b.n"'] * bool(more)) + "}]",
+    ]) + "\n"
+
+
+def most_lines_text():
+    """What becomes of it: each call joins, and finds no row."""
+    lines = ["springtx 1", "client 0"]
+    commits = []
+    place = 0
+    for call in range(4):
+        lines += [f"top {call}", "call b.m required", f"take 1 @p{2 * call + 1}"]
+        place += 1
+        lines += [f"begin {call + 1} @s{place}", "open fresh sync"]
+        for name, reads in [("a", 198)] * 249 + [("c", 197)]:
+            lines += [f"call c.{name} required", "open join"]
+            lines += [f"read a absent @s{place + read}" for read in range(1, reads + 1)]
+            lines += ["end commit", f"leave c.{name}"]
+            place += reads
+        place += 1
+        lines += ["end commit", f"commit {call + 1} @s{place}", f"give 1 @p{2 * call + 2}", "leave b.m"]
+        commits.append(f"commit {call + 1} client 0 tx {call + 1} @s{place}")
+    return "\n".join(lines + ["journal"] + commits + ["rows", "end"]) + "\n"
+
+
 def many_turns(count):
     """A client with one call, and so many turns of it."""
     return "schedule=" + array("0" for _ in range(int(count))) + "\n" + methods([method("m", ["write a 1"])], ["b.m"])
@@ -244,7 +277,7 @@ def load(seed, clients):
 KINDS = [
     repeat, bytes_of, entries, long_name, marks, class_chain, class_ring, call_chain, call_graph, heavy_calls, largest,
     wide_rules, wide_rules_text, new_rows, many_keys, many_empty_rows, additions, additions_text, many_turns,
-    load,
+    most_lines, most_lines_text, load,
 ]
 
 

@@ -1,4 +1,4 @@
-//! What only code can show of several crates: values that are not read from a text, and texts of lines that none reaches yet.
+//! What only code can show of several crates: values that are not read from a text, and clients that meet.
 #![tactic(auto)]
 
 #[cfg(test)]
@@ -9,8 +9,6 @@ mod kept;
 mod loaded;
 #[cfg(test)]
 mod met;
-#[cfg(test)]
-mod printed;
 #[cfg(test)]
 mod scenarios;
 #[cfg(test)]
