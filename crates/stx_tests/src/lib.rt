@@ -1,4 +1,4 @@
-//! What only code can show of several crates: values that are not read from a text, and texts of lines that none reaches yet.
+//! What only code can show of several crates: values that are not read from a text, and a report with every kind of line.
 #![tactic(auto)]
 
 #[cfg(test)]

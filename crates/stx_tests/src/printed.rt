@@ -1,4 +1,4 @@
-// A report with every kind of line, most of which no play reaches yet.
+// A report with every kind of line.
 use crate::scenarios::varied;
 use std::alloc::Global;
 use std::test::Fail;
