@@ -1,5 +1,5 @@
 -- What each job is to do.
-use Rattle.std.proofs.Common.{◌≡◌, ℕ, List, Option, Some, None, refl, sym, ap, ◌∙◌}
+use Rattle.std.proofs.Common.{◌≡◌, ℕ, List, Option, Some, None, refl, ap, subst, ◌∙◌}
 use Rattle.std.specs.Prelude.{Ok}
 use Rattle.stx_scenario.specs.declared.scenario.Scenario.{Scenario}
 use Rattle.stx_base.specs.declared.outcome.Report.{Report}
@@ -41,16 +41,18 @@ rules_is_done Job.Play bytes text S is accepted told = absurd cc
 rules_is_done Job.Check bytes text S is accepted told = absurd cc
 rules_is_done (Job.Load seed clients) bytes text S is accepted told = absurd cc
 
-loaded : (seed clients : ℕ) (bytes text : List ℕ) (S : Scenario) (report : Report) → generated seed clients ≡ S
+loaded : (seed clients : ℕ) (bytes text : List ℕ) (S : Scenario) (report : Report) → S ≡ generated seed clients
     → report ≡ own_report S → Faithful S (own_play S) → text ≡ summary seed report.scenario report.outcome → Fulfils (Job.Load seed clients) bytes (Some report) text
-loaded seed clients bytes text S report made reported faithful told = rw made record {
-  reported = ap (λ (r : Report). Some r) reported;
-  faithful = faithful;
-  told = told ∙ ap (λ (r : Report). summary seed r.scenario r.outcome) reported;
-}
+loaded seed clients bytes text S report made reported faithful told =
+    let own : report ≡ own_report (generated seed clients) = reported ∙ ap own_report made in
+    record {
+      reported = ap (λ (r : Report). Some r) own;
+      faithful = subst (λ (T : Scenario). Faithful T (own_play T)) made faithful;
+      told = told ∙ ap (λ (r : Report). summary seed r.scenario r.outcome) own;
+    }
 
 pub load_is_done : (job : Job) (seed clients : ℕ) (bytes text : List ℕ) (S : Scenario) (report : Report) → job ≡ Job.Load seed clients
     → S ≡ generated seed clients → report ≡ own_report S → Faithful S (own_play S) → text ≡ summary seed report.scenario report.outcome
     → Fulfils job bytes (Some report) text
 load_is_done job seed clients bytes text S report is made reported faithful told =
-    rw is (loaded seed clients bytes text S report (sym made) reported faithful told)
+    rw is (loaded seed clients bytes text S report made reported faithful told)

@@ -20,7 +20,7 @@ use stx_words::{WordsFault, read_words};
 /// a sink. It waits for nobody.
 ///
 /// The whole text is made before the first write. The statuses of the end are those of `ToolEnd`.
-#[tactic(auto, using(stx_tool::proofs::InputLaws::none_within, stx_tool::proofs::InputLaws::all_read, stx_tool::proofs::InputLaws::not_longer))]
+#[tactic(auto, using(stx_tool::proofs::InputLaws::none_within, stx_tool::proofs::InputLaws::not_refused, stx_tool::proofs::InputLaws::not_too_long))]
 pub fn tool<S: Source, K: Sink>(
     alloc: Global,
     words: &[String],

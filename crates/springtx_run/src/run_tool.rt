@@ -24,7 +24,7 @@ use stx_words::{WordsFault, read_run_words};
 /// shared calls. It may wait.
 ///
 /// The whole text is made before the first write. The statuses of the end are those of `ToolEnd`.
-#[tactic(auto, using(stx_tool::proofs::InputLaws::none_within, stx_tool::proofs::InputLaws::all_read, stx_tool::proofs::InputLaws::not_longer))]
+#[tactic(auto, using(stx_tool::proofs::InputLaws::none_within, stx_tool::proofs::InputLaws::not_refused, stx_tool::proofs::InputLaws::not_too_long))]
 pub fn run_tool<R: Threads + Wait + Sync, S: Source, K: Sink, G: Gate>(
     rt: &R,
     alloc: Global,
