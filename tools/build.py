@@ -27,10 +27,10 @@ class BuiltProgram:
         self.path = path
         self.job = job
 
-    def play(self, inputs, job="play"):
-        """Plays each input, in order."""
+    def play(self, inputs, job="play", more=()):
+        """Plays each input, in order, by these words."""
         job = self.job if job == "play" else job
-        return [self.play_one(data, ["--do", job]) for data in inputs]
+        return [self.play_one(data, ["--do", job, *more]) for data in inputs]
 
     def play_one(self, data, words):
         try:
@@ -51,9 +51,9 @@ class QuickBuild:
         self.why = why
         self.build = sources.quick_hash()
 
-    def play(self, inputs, job="play"):
+    def play(self, inputs, job="play", more=()):
         """Plays each input, in order: those that aren't kept by one build."""
-        words = ["--do", job]
+        words = ["--do", job, *more]
         keys = [keep.key_of(self.build, words, data) for data in inputs]
         found = {key: keep.kept(key) for key in keys}
         missing = {key: data for key, data in zip(keys, inputs) if not found[key]}

@@ -51,6 +51,8 @@ def done(words):
         inputs.check_target(path, words.force)
     if words.prove:
         build.prove()
+    if words.do == "load":
+        return load(words)
     return job_of(words)(words, given) if given else 0
 
 
@@ -62,6 +64,16 @@ def job_of(words):
     )
     job = next((each for asked, each in jobs if asked), texts)
     return lambda words, given: job(words, given, explain)
+
+
+def load(words):
+    """Prints what becomes of a scenario that the program generates."""
+    more = ["--seed", str(words.seed), "--clients", str(words.clients)]
+    [result] = build.chosen(words).play([b""], "load", more)
+    out(result.text)
+    if result.status in TEXTS:
+        say(TEXTS[result.status])
+    return result.status
 
 
 def texts(words, given, explain):

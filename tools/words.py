@@ -11,7 +11,8 @@ FILE is a scenario; - is standard input, and of a folder all *.toml are played. 
 Without an option it prints the report.
 
 what to do
-  --do JOB            the program's own job: play, check (is it valid, what does it weigh) or rules
+  --do JOB            the program's own job: play, check (is it valid, what does it weigh) or rules; or load, which takes
+                      no FILE: it plays a scenario of --clients N that --seed N gives
   --show              the report indented by calls, with reasons, after a summary
   --picture FILE.svg  a picture: clients as lanes, scopes as bars
   --trace FILE.json   a trace for Perfetto's and Chrome's viewers
@@ -28,7 +29,8 @@ how
   --program PATH      by this program
   --schedule LIST     by this schedule in place of the scenario's own, as 0,0,1
   --plays N           with --outcomes: at most so many plays (50000), else a sample
-  --seed N            with --outcomes: what a sample is drawn by (1)
+  --seed N            with --outcomes: what a sample is drawn by (1); with --do load: what the scenario is (1)
+  --clients N         with --do load: how many clients there are, 1 to 64 (4)
   --force             a picture or trace may replace a file that is there
   --plain, --colour   with --show: without or with colours, wherever it is written
 
@@ -48,11 +50,12 @@ def parser():
     made = Parser(prog="./play", add_help=False, allow_abbrev=False)
     for flag in ("help", "version", "show", "rules", "expect", "compare", "outcomes", "prove", "quick", "threads", "force"):
         made.add_argument(f"--{flag}", action="store_true")
-    made.add_argument("--do", choices=("play", "check", "rules"))
+    made.add_argument("--do", choices=("play", "check", "rules", "load"))
     for flag in ("picture", "trace", "program", "schedule"):
         made.add_argument(f"--{flag}")
     made.add_argument("--plays", type=int, default=50000)
     made.add_argument("--seed", type=int, default=1)
+    made.add_argument("--clients", type=int)
     made.add_argument("--plain", dest="colour", action="store_false", default=None)
     made.add_argument("--colour", "--color", dest="colour", action="store_true")
     made.add_argument("files", nargs="*")
@@ -68,6 +71,7 @@ def check_together(words):
     ways = [f"--{each}" for each in ("quick", "threads", "program") if getattr(words, each)]
     if len(ways) > 1:
         raise Stop(f"{ways[0]} and {ways[1]} don't go together")
+    check_load(words)
     if words.threads and (words.rules or words.outcomes or words.do in ("check", "rules")):
         raise Stop("--threads plays: it goes with the report, --show, --picture, --trace, --expect and --compare")
     if words.compare and len(words.files) != 2:
@@ -78,8 +82,23 @@ def check_together(words):
         raise Stop("--picture, --trace and --schedule take one scenario")
     if words.plays < 1:
         raise Stop("--plays takes a number from 1 on")
-    if not words.files and not words.prove:
+    if not words.files and not words.prove and words.do != "load":
         raise Stop("no scenario is named. ./play --help says what there is")
+
+
+def check_load(words):
+    """Stops where the words state no load, or more than one."""
+    if words.do != "load":
+        if words.clients is not None:
+            raise Stop("--clients goes with --do load")
+        return
+    if words.files or words.expect:
+        raise Stop("--do load takes no scenario: it plays one that --seed gives")
+    words.clients = 4 if words.clients is None else words.clients
+    if not 1 <= words.clients <= 64:
+        raise Stop("--clients takes a number from 1 to 64")
+    if not 0 <= words.seed < 2**64:
+        raise Stop("--seed takes a number from 0 to 18446744073709551615")
 
 
 def schedule_of(text):

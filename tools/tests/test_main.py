@@ -76,9 +76,18 @@ class Words(Playing):
         for words in ([], ["--nonsense", "x"], ["--do"], ["--do", "jump", FIRST], ["--show", "--rules", FIRST], ["--compare", FIRST], ["--sho", FIRST],
                       ["--outcomes", FIRST, FIRST], ["--picture", "a.svg", FIRST, FIRST], ["--schedule", "0,x", FIRST], ["--schedule", "64", FIRST],
                       ["--quick", "--threads", FIRST], ["nothing.toml"], ["--plays", "0", "--outcomes", FIRST], ["--plays", "x", FIRST],
-                      ["--program", "/nowhere", FIRST], ["--expect", "-"], ["-", "-"], [self.here / "empty"]):
+                      ["--program", "/nowhere", FIRST], ["--expect", "-"], ["-", "-"], [self.here / "empty"],
+                      ["--do", "load", FIRST], ["--do", "load", "--show"], ["--do", "load", "--clients", "65"],
+                      ["--do", "load", "--seed", "-1"], ["--clients", "2", FIRST]):
             (self.here / "empty").mkdir(exist_ok=True)
             self.stops(*words, program=False)
+
+    def test_a_load_takes_no_file(self):
+        told = self.write("tells its words", "#!/bin/sh\ncat\necho $*\n")
+        told.chmod(0o755)
+        for words, wanted in (([], b"--seed 1 --clients 4\n"), (["--clients", "64", "--seed", "7"], b"--seed 7 --clients 64\n")):
+            done = self.play("--do", "load", "--program", told, *words, program=False)
+            self.assertEqual((done.returncode, done.stdout), (0, b"--do load " + wanted), done.stderr)
 
     def test_flags_in_any_order(self):
         for words in (["--do", "check", FIRST], [FIRST, "--do", "check"], [FIRST, "--do=check"], ["--do", "check", "--", FIRST]):
