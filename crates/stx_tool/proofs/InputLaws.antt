@@ -1,5 +1,5 @@
 -- A source that isn't read loses nothing; what is accepted is read whole, and isn't refused.
-use Rattle.std.proofs.Common.{◌≡◌, ℕ, ◌<◌, Bool, true, false, List, [], ◌++◌, length, Option, Some, None, refl, sym, subst, ◌∙◌, ap, arith}
+use Rattle.std.proofs.Common.{◌≡◌, ℕ, Bool, true, false, List, [], ◌++◌, length, Option, Some, None, refl, sym, subst, ◌∙◌, ap, arith}
 use Rattle.std.proofs.lemmas.List.{length-append}
 use Rattle.stx_scenario.specs.declared.limits.TheConstants.{MOST_INPUT_BYTES}
 use Rattle.stx_outside.specs.Streams.{LosesMore, LosesWithin}
