@@ -21,7 +21,8 @@ use Rattle.stx_machine.specs.declared.stage.Place.{Place}
 use Rattle.stx_machine.specs.declared.stage.Stage.{Stage}
 use Rattle.stx_machine.specs.declared.tokens.Tokens.{Tokens}
 use Rattle.stx_context.specs.Carrying.{Carried}
-use Rattle.stx_machine.specs.Machine.{Call, Goes, Hears, context_at, falls, has_failed, later_calls, piece, resume, run, stack, state_at, want_of}
+use Rattle.stx_machine.specs.Machine.{Call, Goes, context_at, falls, has_failed, later_calls, piece, resume, run, stack, state_at, want_of}
+use Rattle.stx_steps.specs.Steps.{Hears}
 use Rattle.stx_machine.specs.Sound.{IsSound, StageFits}
 use Rattle.stx_machine.proofs.Growth.{run_starts, run_stops}
 use Rattle.stx_client.specs.View.{ClientView, script_of, pool_with, store_with, has_told, with_note, fed}

@@ -16,6 +16,7 @@ use std::marker::Model;
 use stx_base::{Call, ClientLines, Line, Note, PoolCall, Reply, StoreCall, Want};
 use stx_machine::{Machine, Setup, Stage};
 use stx_scenario::NoMemory;
+use stx_steps::fall;
 
 /// A client of a scenario, seen as the notes that it has taken in, the call that is out, whether it has failed, and the
 /// lines that it has said.
@@ -56,7 +57,7 @@ impl<'a> Client<'a> {
         let mut machine = Machine::new(alloc);
         machine.reserve(alloc)?;
         machine.call_at(setup, number, 0);
-        machine.fall(alloc, setup, number)?;
+        fall(&mut machine, alloc, setup, number)?;
         Ok(Client {
             setup,
             number,
@@ -190,6 +191,6 @@ fn hear(
 {
     notes.reserve()?;
     machine.reserve(alloc)?;
-    machine.hear(alloc, setup, note);
-    machine.fall(alloc, setup, number)
+    stx_steps::hear(machine, alloc, setup, note);
+    fall(machine, alloc, setup, number)
 }

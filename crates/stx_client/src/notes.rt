@@ -5,6 +5,7 @@ ghost use Rattle.stx_base.specs.declared.history.Note.{Note as NoteData};
 ghost use Rattle.stx_base.specs.Notes.{is_reply_to, note_of as note_in, pool_note as pool_note_in, store_note as store_note_in};
 ghost use Rattle.stx_machine.specs.Sound.{brought};
 ghost use Rattle.stx_client.specs.View.{pool_with, store_with};
+ghost use Rattle.stx_client.specs.inner.Keeps.{Lacks};
 
 use std::alloc::Global;
 use stx_base::{Note, PoolAnswer, PoolNote, Reply, StoreAnswer, StoreNote, Want};
@@ -59,7 +60,8 @@ impl Notes {
 
 /// The note of the reply to what is wanted. What the reply brings is kept.
 pub(crate) fn note_of(want: Want, reply: Reply, tokens: &mut Tokens) -> Note
-    requires { IsTrue (is_reply_to want reply) }
+    requires reply { IsTrue (is_reply_to want reply) }
+    requires free { Lacks want tokens.old }
     ensures note { note_in want reply ≡ Some result }
     ensures tokens { tokens.new ≡ brought result tokens.old }
 {
@@ -70,29 +72,31 @@ pub(crate) fn note_of(want: Want, reply: Reply, tokens: &mut Tokens) -> Note
 }
 
 fn pool_note(want: Want, answer: PoolAnswer, tokens: &mut Tokens) -> PoolNote
-    requires { IsTrue (is_reply_to want (ReplyData.Pool answer)) }
+    requires reply { IsTrue (is_reply_to want (ReplyData.Pool answer)) }
+    requires free { Lacks want tokens.old }
     ensures note { pool_note_in want answer ≡ Some result }
     ensures tokens { tokens.new ≡ brought (NoteData.Pool result) tokens.old }
 {
     match (want, answer) {
-        (_, PoolAnswer::Taken(connection)) => {
+        (Want::Take, PoolAnswer::Taken(connection)) => {
             let number = connection.number();
             tokens.keep_connection(connection);
             PoolNote::Taken(number)
         }
-        (_, PoolAnswer::Empty) => PoolNote::Empty,
+        (Want::Take, PoolAnswer::Empty) => PoolNote::Empty,
         (Want::Give(number), PoolAnswer::Given) => PoolNote::Given(number),
         _ => unreachable!(),
     }
 }
 
 fn store_note(want: Want, answer: StoreAnswer, tokens: &mut Tokens) -> StoreNote
-    requires { IsTrue (is_reply_to want (ReplyData.Store answer)) }
+    requires reply { IsTrue (is_reply_to want (ReplyData.Store answer)) }
+    requires free { Lacks want tokens.old }
     ensures note { store_note_in want answer ≡ Some result }
     ensures tokens { tokens.new ≡ brought (NoteData.Store result) tokens.old }
 {
     match (want, answer) {
-        (_, StoreAnswer::Begun(session)) => {
+        (Want::Begin, StoreAnswer::Begun(session)) => {
             let number = session.number();
             tokens.keep_session(session);
             StoreNote::Begin(number)

@@ -7,10 +7,6 @@ pub mod OpeningLaws
 pub mod Endings
 pub mod RowLaws
 pub mod Growth
-pub mod Dealings
 pub mod Registering
 pub mod Telling
-pub mod RoundLaws
 pub mod Standings
-pub mod Hearing
-pub mod BodyLaws

@@ -23,8 +23,24 @@ use Rattle.stx_machine.specs.declared.tokens.Tokens.{Tokens}
 use Rattle.stx_scenario.specs.declared.numbers.ClassNo.{ClassNo}
 use Rattle.stx_machine.specs.Machine.{Call, left_in, left_of, IsPushed, stack, caller_rank}
 use Rattle.stx_machine.specs.Sound.{Bond, Unbound, Runs, Ended, CallPoints, CallsRun, IsBody, IsEarly, IsSound, Standing, StageFits, below_rest, below_scope, bond_of, RoundsIn, RunsIn, Shelters, below_phase, below_round, due_in, due_told, ends_after, ends_syncs, has_ended, has_own_of, has_point, is_due, is_last, is_point, is_resumption, is_unbound, nothing, one_less, one_more, points_of, releases, runs, standing_of, standing_under, without_own}
-use Rattle.stx_machine.proofs.Hearing.{resumption_is}
 use Rattle.stx_machine.proofs.Stacks.{pushed, runs_only}
+
+-- ---- the last action
+
+pub resumption_is : (rest : List Action) → is_resumption rest ≡ true → rest ≡ Action.Resumption ∷ []
+resumption_is [] is = absurd (false≢true is)
+resumption_is (Action.Resumption ∷ []) is = refl
+resumption_is (Action.Resumption ∷ a ∷ rest) is = absurd (false≢true is)
+resumption_is (Action.RoundBeforeCompletion ∷ rest) is = absurd (false≢true is)
+resumption_is (Action.RoundAfterCommit ∷ rest) is = absurd (false≢true is)
+resumption_is (Action.RoundAfterCompletion committed ∷ rest) is = absurd (false≢true is)
+resumption_is (Action.CommitStore ∷ rest) is = absurd (false≢true is)
+resumption_is (Action.RollbackStore ∷ rest) is = absurd (false≢true is)
+resumption_is (Action.BackToPoint ∷ rest) is = absurd (false≢true is)
+resumption_is (Action.ReleasePoint ∷ rest) is = absurd (false≢true is)
+resumption_is (Action.MarkGlobally ∷ rest) is = absurd (false≢true is)
+resumption_is (Action.ThrowUnexpected ∷ rest) is = absurd (false≢true is)
+resumption_is (Action.GiveBack ∷ rest) is = absurd (false≢true is)
 
 -- ---- a call on top
 

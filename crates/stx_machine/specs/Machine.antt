@@ -47,7 +47,6 @@ use Rattle.stx_sync.specs.declared.registered.Registered.{Registered}
 use Rattle.stx_sync.specs.Registries.{registration}
 use Rattle.stx_frames.specs.declared.frame.Frame.{Frame}
 use Rattle.stx_machine.specs.declared.completion.Intercepted.{Intercepted}
-use Rattle.stx_machine.specs.declared.rounds.Telling.{Telling}
 use Rattle.stx_machine.specs.declared.interception.Course.{Course}
 use Rattle.stx_machine.specs.declared.interception.Interception.{Interception}
 use Rattle.stx_machine.specs.declared.interception.Phase.{Phase}
@@ -332,7 +331,6 @@ resume S (f ∷ fs) r = resume S fs (frame_after S fs f r)
 
 -- ---- stages
 
--- the piece that is left of an intercepted call
 -- the context was resumed: its registrations are told
 abbrev pub tells_resumed : State → State
 tells_resumed st = say_each Line.Resume (ordered_labels st.context.syncs) st
@@ -622,21 +620,6 @@ tells_all S _ context = false
 abbrev pub told_by : Scenario → Stage → Context → List Registration
 told_by S stage context = elim (tells_all S stage context) [ true ↦ ordered (registered context.syncs) | false ↦ [] ]
 
--- the next of these deeds
-abbrev pub first_deed : List Deed → Option Deed
-first_deed [] = None
-first_deed (d ∷ ds) = Some d
-
--- what the step at a stage does with a listener
-abbrev pub deed_by : Scenario → Stage → Option Deed
-deed_by S (Stage.Dealing publication) = first_deed (later_deeds S publication)
-deed_by S _ = None
-
--- where a scope is to be opened, the method has an attribute
-abbrev pub CanPrepare : Scenario → Stage → Type 0
-CanPrepare S (Stage.Opening m catch) = IsSome (attribute S m)
-CanPrepare S _ = ⊤
-
 -- there is room for one registration more, where synchronisation is active
 abbrev pub HasRoom : Carried → Type 0
 HasRoom carried = IfSome carried.syncs (λ r. 1 ≤ r.spare)
@@ -675,65 +658,6 @@ rounds_of S call course st =
     (finally (round_if S (inside S call.method) call.interception.scope.owns course.round course.committed st) (after_round S call.method call.interception course))
     (caught S call.catch)
 
--- ---- rounds
-
--- whether a listener runs in a round
-abbrev pub listener_runs : Round → Bool → Option Listener → Bool
-listener_runs round committed (Some listener) = runs_in listener.phase round committed
-listener_runs round committed None = false
-
-abbrev pub runs_on : Scenario → ListenerNo → Round → Bool → Bool
-runs_on S l round committed = listener_runs round committed (slice_get S.listeners l.0)
-
--- the lines with which a registration's callback begins
-abbrev pub begins_callback : Scenario → Round → Bool → Label → State → State
-begins_callback S round committed (Label.Sync s) st = say (callback_line round committed (Label.Sync s)) st
-begins_callback S round committed (Label.Listener l) st =
-    elim (runs_on S l round committed) [
-      | true ↦ say (Line.Listen l) (say (callback_line round committed (Label.Listener l)) st)
-      | false ↦ say (callback_line round committed (Label.Listener l)) st
-    ]
-
--- they were said
-pub record SaysCallback (S : Scenario) (round : Round) (committed : Bool) (label : Label) (before after : Machine) : Type 0 where
-  pub state : (pool : List PoolNote) (store : List StoreNote) → begins_callback S round committed label (state_before before pool store) ≡ state_before after pool store
-  pub rest : after ≡ record before { lines = after.lines }
-  pub room : before.lines.spare ≤ after.lines.spare + 2
-  pub longer : length before.lines.items < length after.lines.items
-
--- the innermost call is at a round
-abbrev pub IsInRoundPhase : Phase → Type 0
-IsInRoundPhase (Phase.Round course) = ⊤
-IsInRoundPhase _ = ⊥
-
-abbrev pub IsRounding : List Call → Type 0
-IsRounding (Frame.Body m place catch (Some i) ∷ fs) = IsInRoundPhase i.phase
-IsRounding _ = ⊥
-
--- what a round that was taken off comes to after a piece of the callback under way
-abbrev pub telling_after : Scenario → Telling → Result → Result
-telling_after S t r =
-    finally
-    (finally (course_after S (inside S t.call.method) t.course t.todo t.at t.place r) (after_round S t.call.method t.call.interception t.course))
-    (caught S t.call.catch)
-
--- what the registrations that are still to be told come to
-abbrev pub tells_on : Scenario → Telling → Meaning
-tells_on S t st =
-    finally
-    (finally (tells S (inside S t.call.method) t.course.round t.course.committed (untold t.todo t.at) st) (after_round S t.call.method t.call.interception t.course))
-    (caught S t.call.catch)
-
--- a round's frame
-abbrev pub round_frame : Telling → Call
-round_frame t = Frame.Round t.course.round t.todo t.at t.place None
-
--- a round is on top of the call that it is part of, and both on top of those before
-pub record IsToldOn (before : Machine) (t : Telling) (after : Machine) : Type 0 where
-  pub frames : stack after.frames ≡ round_frame t ∷ put_back t.call (Phase.Round t.course) ∷ stack before.frames
-  pub room : before.frames.spare ≡ after.frames.spare + 2
-  pub rest : after ≡ record before { frames = after.frames }
-
 -- the end of a call's scope, and all after it
 abbrev pub ends_of : Scenario → Intercepted → Option ClassNo → Meaning
 ends_of S call x st = finally (ends S (inside S call.method) (scope_of call.method call.interception) (attribute_of S call.method) x st) (caught S call.catch)
@@ -759,64 +683,6 @@ abbrev pub HasTransaction : Option Live → ℕ → Type 0
 HasTransaction (Some live) t = live.transaction ≡ t
 HasTransaction None t = ⊥
 
-pub record ResumesIf (older : Option Carried) (before after : Machine) : Type 0 where
-  pub state : (pool : List PoolNote) (store : List StoreNote) → resumed (option_map context_of older) (state_before before pool store) ≡ elim (is_some older) [
-    | true ↦ tells_resumed (state_before after pool store)
-    | false ↦ state_before after pool store
-  ]
-  pub rest : after ≡ record before { context = after.context; lines = after.lines }
-  pub room : before.lines.spare ≤ after.lines.spare + 1
-
 -- no line was taken back
 abbrev pub MovesLines : Machine → Machine → Type 0
 MovesLines before after = length before.lines.items ≤ length after.lines.items
-
--- ---- notes
-
--- the machine before a line was said
-abbrev pub before_line : Machine → List Line → Machine
-before_line m lines = record m { lines = record (m.lines) { items = lines } }
-
--- a note of the pool whose line was said takes one machine to the other, whatever notes are still to come and whichever the
--- client is; likewise a note of the store
-abbrev pub HearsPool : Scenario → PoolNote → Machine → Machine → Type 0
-HearsPool S note before after =
-    (n : ℕ) (lines : List Line) (pool : List PoolNote) (store : List StoreNote)
-    → before.lines.items ≡ lines ++ pool_line note ∷ [] → run S n (before_line before lines) (note ∷ pool) store ≡ run S n after pool store
-
-abbrev pub HearsStore : Scenario → StoreNote → Machine → Machine → Type 0
-HearsStore S note before after =
-    (n : ℕ) (lines : List Line) (pool : List PoolNote) (store : List StoreNote)
-    → before.lines.items ≡ lines ++ store_line note ∷ [] → run S n (before_line before lines) pool (note ∷ store) ≡ run S n after pool store
-
--- a note takes one machine to the other
-abbrev pub Hears : Scenario → Note → Machine → Machine → Type 0
-Hears S (Note.Pool note) before after = (n : ℕ) (pool : List PoolNote) (store : List StoreNote) → run S n before (note ∷ pool) store ≡ run S n after pool store
-Hears S (Note.Store note) before after = (n : ℕ) (pool : List PoolNote) (store : List StoreNote) → run S n before pool (note ∷ store) ≡ run S n after pool store
-
--- the innermost call, where its scope found no connection
-abbrev pub finds_none : Scenario → List Call → Meaning
-finds_none S (Frame.Body m place catch (Some i) ∷ fs) st = begun S m i None st
-finds_none S _ st = Breaks st
-
--- something was suspended for the innermost call
-abbrev pub HasSuspended : List Call → Type 0
-HasSuspended (Frame.Body m place catch (Some i) ∷ fs) = IsSome i.scope.suspended
-HasSuspended _ = ⊥
-
--- the innermost call, where its savepoint was made
-abbrev pub starts_pointed : Scenario → List Call → Meaning
-starts_pointed S (Frame.Body m place catch (Some i) ∷ fs) st = pointed S m st
-starts_pointed S _ st = Breaks st
-
--- a fresh scope whose transaction just began
-abbrev pub starts_on : Scenario → MethodNo → Interception → ℕ → ℕ → Meaning
-starts_on S m i c t st =
-    in_scope S (inside S m)
-    (record { method = m; kind = Kind.Fresh; owns = i.scope.owns; older = Some (unwrap_or (option_map context_of i.scope.suspended) bare); outer = st.local })
-    (attribute_of S m) (statements S m 0)
-    (with_context (fresh_context c t (attribute_of S m).read_only i.scope.owns) st)
-
-abbrev pub starts : Scenario → List Call → ℕ → ℕ → Meaning
-starts S (Frame.Body m place catch (Some i) ∷ fs) c t st = starts_on S m i c t st
-starts S _ c t st = Breaks st

@@ -27,7 +27,6 @@ use Rattle.stx_sync.specs.declared.registered.Registered.{Registered}
 use Rattle.stx_sync.specs.Registries.{registration}
 use Rattle.stx_frames.specs.declared.frame.Frame.{Frame}
 use Rattle.stx_machine.specs.declared.completion.Intercepted.{Intercepted}
-use Rattle.stx_machine.specs.declared.rounds.Telling.{Telling}
 use Rattle.stx_machine.specs.declared.interception.Course.{Course}
 use Rattle.stx_machine.specs.declared.interception.Interception.{Interception}
 use Rattle.stx_machine.specs.declared.interception.Phase.{Phase}
@@ -470,54 +469,3 @@ pub record IsAtRound (S : Scenario) (k : ℕ) (c : Intercepted) (standing : Stan
   pub intercepted : IsIntercepted S c.method c.interception.scope.owns standing.syncs
   pub due : IsTrue (due_after course.round c.interception.scope standing course.rest.now)
   pub class : IsClass S course.thrown
-
--- it is one of which a round is made, and what comes after it
-pub record IsInRound (S : Scenario) (k : ℕ) (c : Intercepted) (standing : Standing) (course : Course) : Type 0 where
-  pub call : IsCall S k c.method c.catch
-  pub intercepted : IsIntercepted S c.method c.interception.scope.owns standing.syncs
-  pub due : IsTrue (due_told course.round c.interception.scope standing course.rest.now)
-  pub class : IsClass S course.thrown
-
--- a round that was taken off, with the call that it is part of
-pub record IsTelling (S : Scenario) (k : ℕ) (t : Telling) (standing : Standing) : Type 0 where
-  pub round : IsInRound S k t.call standing t.course
-  pub told : IsTold S t.call.method t.todo t.at
-
--- ---- statements
-
--- what a body of this method may do
-abbrev pub MayMake : Scenario → MethodNo → Stmt → Type 0
-MayMake S caller (Stmt.Call m catch) = IsCall S (rank S caller) m catch
-MayMake S caller (Stmt.This m catch) = IsCall S (rank S caller) m catch
-MayMake S caller (Stmt.Throw x) = x.0 < length S.classes
-MayMake S caller (Stmt.Register sync) = SyncBelow S (rank S caller) sync
-MayMake S caller (Stmt.Publish event) = (active live : Bool) → DeedsBelow S (rank S caller) (deeds S event active live)
-MayMake S caller _ = ⊤
-
--- what a callback may do that calls only methods of a rank below this
-abbrev pub MayCallBack : Scenario → ℕ → Stmt → Type 0
-MayCallBack S k (Stmt.Call m catch) = IsCall S k m catch
-MayCallBack S k (Stmt.This m catch) = ⊥
-MayCallBack S k (Stmt.Throw x) = x.0 < length S.classes
-MayCallBack S k Stmt.Mark = ⊥
-MayCallBack S k (Stmt.Register sync) = ⊥
-MayCallBack S k (Stmt.Publish event) = ⊥
-MayCallBack S k _ = ⊤
-
--- the statement at the place, if nothing was thrown and there is one
-abbrev pub IsNext : List Stmt → ℕ → Option ClassNo → Option Stmt → Type 0
-IsNext body place thrown (Some s) = (thrown ≡ None) × (slice_get body place ≡ Some s)
-IsNext body place thrown None = thrown ≡ None → slice_get body place ≡ None
-
--- where the innermost call waits for its transaction, nothing is carried
-pub record IsOpening (m : Machine) (tokens : Tokens) : Type 0 where
-  pub bare : m.context ≡ bare
-  pub call : IsIntercepting (stack m.frames)
-  pub top : m.top < most_calls
-  pub holds : m.tokens ≡ tokens
-
--- where the innermost call completes
-pub record IsEndingCall (S : Scenario) (m : Machine) : Type 0 where
-  pub call : CallCompletes S (standing_of m.context) (stack m.frames)
-  pub top : m.top < most_calls
-  pub holds : m.tokens ≡ no_tokens

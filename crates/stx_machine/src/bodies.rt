@@ -20,7 +20,7 @@ use stx_scenario::{
 use stx_sync::Registered;
 
 /// The first access of a statement on a row, and what is done with its answer.
-pub(crate) fn access_of(statement: Stmt) -> Option<(Access, Then)>
+pub fn access_of(statement: Stmt) -> Option<(Access, Then)>
     ensures { result ≡ access_in statement }
 {
     match statement {
@@ -62,7 +62,7 @@ fn order_of(setup: &Setup, sync: SyncNo) -> i32
 
 impl Machine {
     /// An exception arises.
-    pub(crate) fn throw(&mut self, class: ClassNo)
+    pub fn throw(&mut self, class: ClassNo)
         requires room { 1 ≤ self.old.lines.spare }
         ensures goes { (S : ScenarioData) → Comes S self.old (throws class) self.new }
         ensures longer { IsLonger self.old self.new }
@@ -73,7 +73,7 @@ impl Machine {
     }
 
     /// Ends a statement, which throws this or nothing.
-    pub(crate) fn conclude(&mut self, thrown: Option<ClassNo>)
+    pub fn conclude(&mut self, thrown: Option<ClassNo>)
         requires room { 1 ≤ self.old.lines.spare }
         ensures goes { (S : ScenarioData) → Comes S self.old (concludes thrown) self.new }
         ensures sound { (S : ScenarioData) → IsClass S thrown → Leaves S self.old no_tokens self.new }
@@ -86,7 +86,7 @@ impl Machine {
     }
 
     /// Marks the nearest scope that is open.
-    pub(crate) fn mark(&mut self)
+    pub fn mark(&mut self)
         requires room { 1 ≤ self.old.lines.spare }
         ensures goes { (S : ScenarioData) → Comes S self.old (marks self.old.local) self.new }
         ensures longer { IsLonger self.old self.new }
@@ -103,7 +103,7 @@ impl Machine {
     }
 
     /// Registers a synchronisation, where synchronisation is active.
-    pub(crate) fn register(&mut self, setup: &Setup, sync: SyncNo)
+    pub fn register(&mut self, setup: &Setup, sync: SyncNo)
         requires lines { 1 ≤ self.old.lines.spare }
         requires registry { HasRoom self.old.context }
         ensures goes { Comes setup.now.scenario self.old (register_sync setup.now.scenario sync) self.new }
@@ -123,7 +123,7 @@ impl Machine {
     }
 
     /// Goes to a statement's first access, in the live transaction or on a connection of its own.
-    pub(crate) fn want_access(&mut self, access: Access, then: Then)
+    pub fn want_access(&mut self, access: Access, then: Then)
         ensures goes { (S : ScenarioData) → Comes S self.old (row_statement_of self.old access then) self.new }
         ensures waits { falls self.new.stage ≡ false }
         ensures sound { (S : ScenarioData) → Leaves S self.old no_tokens self.new }
@@ -152,7 +152,7 @@ impl Machine {
     }
 
     /// Goes on after the answer to a statement's access.
-    pub(crate) fn answer(&mut self, place: Place, then: Then, answer: Answer)
+    pub fn answer(&mut self, place: Place, then: Then, answer: Answer)
         requires room { 1 ≤ self.old.lines.spare }
         ensures goes { (S : ScenarioData) → Comes S self.old (answered place then answer) self.new }
         ensures sound { (S : ScenarioData) → IsPlayable S → Leaves S self.old (held_at place) self.new }

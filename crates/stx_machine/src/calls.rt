@@ -21,7 +21,7 @@ use stx_scenario::{ClassNo, MethodNo, TxAttr};
 
 impl Machine {
     /// Calls a method through its bean's proxy.
-    pub(crate) fn call(&mut self, setup: &Setup, method: MethodNo, catch: Option<ClassNo>)
+    pub fn call(&mut self, setup: &Setup, method: MethodNo, catch: Option<ClassNo>)
         requires lines { 1 ≤ self.old.lines.spare }
         requires frames { 1 ≤ self.old.frames.spare }
         requires call { IsCall setup.now.scenario (rank_at setup.now.scenario self.old) method catch }
@@ -47,7 +47,7 @@ impl Machine {
     }
 
     /// Calls a method of the same bean, which is never intercepted.
-    pub(crate) fn call_directly(&mut self, method: MethodNo, catch: Option<ClassNo>)
+    pub fn call_directly(&mut self, method: MethodNo, catch: Option<ClassNo>)
         requires lines { 1 ≤ self.old.lines.spare }
         requires frames { 1 ≤ self.old.frames.spare }
         ensures goes { (S : ScenarioData) → Comes S self.old (entered S (LineData.This method) method catch) self.new }
@@ -75,7 +75,7 @@ impl Machine {
     }
 
     /// Leaves a call, which throws this or nothing, and catches what its statement catches.
-    pub(crate) fn leave(
+    pub fn leave(
         &mut self,
         setup: &Setup,
         method: MethodNo,
@@ -138,7 +138,7 @@ fn catches(setup: &Setup, catch: Option<ClassNo>, thrown: ClassNo) -> bool
 }
 
 /// The attribute of a method: its own, or its bean's.
-pub(crate) fn attribute_of(setup: &Setup, method: MethodNo) -> &TxAttr
+pub fn attribute_of(setup: &Setup, method: MethodNo) -> &TxAttr
     requires has { IsSome (attribute_in setup.now.scenario method) }
     ensures { result.now ≡ attribute_at setup.now.scenario method }
 {

@@ -11,8 +11,8 @@ ghost use Rattle.stx_model.specs.Playable.{IsPlayable};
 ghost use Rattle.stx_model.specs.Scopes.{is_set, rolls};
 ghost use Rattle.stx_context.specs.Carrying.{bare, context_of};
 ghost use Rattle.stx_machine.specs.declared.stage.Stage.{Stage as StageData};
-ghost use Rattle.stx_machine.specs.Machine.{AreTold, Comes, HasTransaction, IsClass, IsIntercepting, IsLonger, IsPushed, Moves, MovesLines, ResumesOn, Rules, acts_of, attribute_of as attribute_at, completes_of, ends_of, left, left_of, live_of, of_top, on_top, put_back, stack};
-ghost use Rattle.stx_machine.specs.Sound.{CallResumes, Ended, IsApart, IsCompleting, IsEnding, IsEndingSo, IsSound, below_rest, below_scope, bond_of, has_ended, has_point, held, no_tokens, one_less, rank_at, runs, standing_of};
+ghost use Rattle.stx_machine.specs.Machine.{AreTold, Comes, HasTransaction, IsClass, IsIntercepting, IsLonger, IsPushed, Moves, MovesLines, ResumesOn, Rules, acts_of, attribute_of as attribute_at, completes_of, ends_of, left, left_of, live_of, of_top, on_top, put_back, stack, rounds_of, left_after};
+ghost use Rattle.stx_machine.specs.Sound.{CallResumes, Ended, IsApart, IsCompleting, IsEnding, IsEndingSo, IsSound, below_rest, below_scope, bond_of, has_ended, has_point, held, no_tokens, one_less, rank_at, runs, standing_of, IsAtRound, below_round};
 
 use crate::calls::attribute_of;
 use crate::interception::{Course, Interception, Phase};
@@ -30,11 +30,11 @@ use stx_sync::Registered;
 
 /// An intercepted call that was taken off the others.
 #[derive(Drop)]
-pub(crate) struct Intercepted {
-    pub(crate) method: MethodNo,
-    pub(crate) place: u32,
-    pub(crate) catch: Option<ClassNo>,
-    pub(crate) interception: Interception,
+pub struct Intercepted {
+    pub method: MethodNo,
+    pub place: u32,
+    pub catch: Option<ClassNo>,
+    pub interception: Interception,
 }
 
 // What the rules of a method decide where it throws this (`TransactionAspectSupport.completeTransactionAfterThrowing`).
@@ -78,7 +78,7 @@ fn taken_apart(frame: Frame<Interception>) -> Intercepted
 
 impl Machine {
     /// Takes the innermost call off, which is an intercepted one.
-    pub(crate) fn take_off(&mut self) -> Intercepted
+    pub fn take_off(&mut self) -> Intercepted
         requires top { IsIntercepting (stack self.old.frames) }
         ensures call { stack self.old.frames ≡ on_top result ∷ stack self.new.frames }
         ensures room { self.new.frames.spare ≡ self.old.frames.spare + 1 }
@@ -91,7 +91,7 @@ impl Machine {
     }
 
     /// Puts an intercepted call back on top of the others, in this phase.
-    pub(crate) fn put_back(&mut self, call: Intercepted, phase: Phase)
+    pub fn put_back(&mut self, call: Intercepted, phase: Phase)
         requires frames { 1 ≤ self.old.frames.spare }
         ensures { IsPushed self.old (put_back call phase) self.new }
     {
@@ -145,7 +145,7 @@ impl Machine {
     }
 
     /// Ends the scope of a call whose body threw this or nothing; its completion is due.
-    pub(crate) fn end(&mut self, setup: &Setup, call: Intercepted, thrown: Option<ClassNo>)
+    pub fn end(&mut self, setup: &Setup, call: Intercepted, thrown: Option<ClassNo>)
         requires playable { IsPlayable setup.now.scenario }
         requires ending { IsEnding setup.now.scenario (rank_at setup.now.scenario self.old) call (standing_of self.old.context) }
         requires class { IsClass setup.now.scenario thrown }
@@ -201,8 +201,25 @@ impl Machine {
         }
     }
 
+    // Begins a round where the scope owns synchronisation; else its completion goes on.
+    fn begin_round(&mut self, call: Intercepted, course: Course)
+        requires frames { 1 ≤ self.old.frames.spare }
+        ensures goes { (S : ScenarioData) → Comes S self.old (rounds_of S call course) self.new }
+        ensures sound { (S : ScenarioData) → IsAtRound S (rank_at S self.old) call (standing_of self.old.context) course → IsApart S self.old (below_round call.interception.scope course (standing_of self.old.context)) → IsSound S self.new no_tokens }
+        ensures held { held self.new.stage ≡ no_tokens }
+        ensures lines { self.new.lines ≡ self.old.lines }
+        ensures left { left self.new ≤ left_after course + 2 }
+    {
+        if call.interception.scope.owns() {
+            self.put_back(call, Phase::Round(course));
+            self.stage = Stage::Rounding;
+        } else {
+            self.go_on_with(call, course.rest, course.thrown);
+        }
+    }
+
     /// Does the next of the actions that are left of a call's completion, or leaves the call after the last.
-    pub(crate) fn complete(
+    pub fn complete(
         &mut self,
         setup: &Setup,
         call: Intercepted,
@@ -334,7 +351,7 @@ impl Machine {
 // The actions themselves.
 impl Machine {
     /// Goes on with these actions.
-    pub(crate) fn go_on_with(
+    pub fn go_on_with(
         &mut self,
         call: Intercepted,
         rest: &'static [Action],
@@ -378,6 +395,7 @@ impl Machine {
     // Takes the session out of the bound holder, for the store; the connection stays bound.
     fn end_session(&mut self) -> u32
         requires runs { IsTrue (runs (bond_of self.old.context.tx)) }
+        requires free { self.old.tokens.session ≡ None }
         ensures number { HasTransaction (context_of self.old.context).tx result }
         ensures context { context_of self.new.context ≡ context_of self.old.context }
         ensures bond { bond_of self.new.context.tx ≡ Ended 0 }
@@ -398,6 +416,7 @@ impl Machine {
     // Takes the connection out of the context, for the pool.
     fn part(&mut self) -> Bound
         requires ended { IsTrue (has_ended (bond_of self.old.context.tx)) }
+        requires free { self.old.tokens.connection ≡ None }
         ensures bound { (context_of self.old.context).tx ≡ Some (live_of result) }
         ensures context { self.new.context ≡ record self.old.context { tx = None } }
         ensures connection { self.new.tokens ≡ record self.old.tokens { connection = Some result.connection } }
@@ -416,7 +435,7 @@ impl Machine {
     }
 
     /// The transaction that is bound.
-    pub(crate) fn transaction(&self) -> u32
+    pub fn transaction(&self) -> u32
         requires bound { IsSome self.now.context.tx }
         ensures { HasTransaction (context_of self.now.context).tx result }
     {
@@ -444,7 +463,7 @@ impl Machine {
     }
 
     /// The innermost savepoint was returned to: the transaction's mark goes.
-    pub(crate) fn clear_mark(&mut self)
+    pub fn clear_mark(&mut self)
         ensures context { context_of self.new.context ≡ with_global_mark false (context_of self.old.context) }
         ensures standing { standing_of self.new.context ≡ standing_of self.old.context }
         ensures rest { self.new ≡ record self.old { context = self.new.context } }
@@ -489,7 +508,7 @@ impl Machine {
     }
 
     /// Tells the registrations that were resumed for the innermost call; then its completion goes on, or it is refused.
-    pub(crate) fn tell_resumed(&mut self, told: List<Registered>)
+    pub fn tell_resumed(&mut self, told: List<Registered>)
         requires call { ResumesOn (stack self.old.frames) }
         requires told { AreTold told (context_of self.old.context) }
         requires lines { length told + 2 ≤ self.old.lines.spare }

@@ -56,7 +56,7 @@ impl Drop for Interception {
 
 impl Interception {
     /// The scope alone.
-    pub(crate) fn into_scope(self) -> Scope
+    pub fn into_scope(self) -> Scope
         ensures { result ≡ self.scope }
     {
         let Interception {

@@ -3,20 +3,19 @@
 //! left of the script at each stage.
 #![tactic(auto)]
 
-mod answers;
 mod bodies;
 mod calls;
 mod completion;
 mod interception;
 mod machine;
 mod openings;
-mod publications;
-mod rounds;
 mod setup;
 mod stage;
-mod steps;
 mod tokens;
 
+pub use bodies::access_of;
+pub use calls::attribute_of;
+pub use completion::Intercepted;
 pub use interception::{Course, Interception, Phase};
 pub use machine::Machine;
 pub use setup::Setup;

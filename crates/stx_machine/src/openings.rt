@@ -30,7 +30,7 @@ use stx_sync::{Registered, Registry};
 
 impl Machine {
     /// Opens the scope of an intercepted call, or refuses it.
-    pub(crate) fn open(
+    pub fn open(
         &mut self,
         alloc: Global,
         setup: &Setup,
@@ -62,7 +62,7 @@ impl Machine {
     }
 
     /// Refuses a call with an exception of this class: no scope is opened, and its body never runs.
-    pub(crate) fn refuse(&mut self, method: MethodNo, catch: Option<ClassNo>, class: ClassNo)
+    pub fn refuse(&mut self, method: MethodNo, catch: Option<ClassNo>, class: ClassNo)
         requires lines { 1 ≤ self.old.lines.spare }
         requires frames { 1 ≤ self.old.frames.spare }
         ensures goes { (S : ScenarioData) → Comes S self.old (λ st. finally (leaves method (Some class) (say (LineData.Throw class) st)) (caught S catch)) self.new }
@@ -141,7 +141,7 @@ impl Machine {
     }
 
     /// Starts the body of a call whose scope was just opened.
-    pub(crate) fn start(&mut self, method: MethodNo, catch: Option<ClassNo>, scope: Scope)
+    pub fn start(&mut self, method: MethodNo, catch: Option<ClassNo>, scope: Scope)
         requires lines { 1 ≤ self.old.lines.spare }
         requires frames { 1 ≤ self.old.frames.spare }
         ensures goes { (S : ScenarioData) → Comes S self.old (λ st. finally (started S method scope st) (caught S catch)) self.new }
@@ -176,7 +176,7 @@ impl Machine {
     }
 
     /// Makes synchronisation active, where the scope owns it.
-    pub(crate) fn start_syncs_if(&mut self, alloc: Global, owns: bool)
+    pub fn start_syncs_if(&mut self, alloc: Global, owns: bool)
         requires free { owns ≡ true → self.old.context.syncs ≡ None }
         ensures started { context_of self.new.context ≡ with_syncs_started owns (context_of self.old.context) }
         ensures tx { self.new.context.tx ≡ self.old.context.tx }
@@ -227,7 +227,7 @@ impl Machine {
     }
 
     /// Tells registrations that were resumed, or that are suspended.
-    pub(crate) fn say_each(&mut self, told: &[Registered], resumed: bool)
+    pub fn say_each(&mut self, told: &[Registered], resumed: bool)
         requires lines { length told.now ≤ self.old.lines.spare }
         ensures said { self.new.lines.items ≡ self.old.lines.items ++ map (λ r. told_line_of resumed r.label) told.now }
         ensures room { self.old.lines.spare ≤ self.new.lines.spare + length told.now }
@@ -239,7 +239,7 @@ impl Machine {
     }
 
     /// Carries again what was suspended, and binds its connection. Its registrations are still to be told.
-    pub(crate) fn resume(&mut self, suspended: Suspended)
+    pub fn resume(&mut self, suspended: Suspended)
         requires bare { self.old.context ≡ bare }
         requires lines { 1 ≤ self.old.lines.spare }
         ensures { Resumes self.old suspended self.new }

@@ -35,21 +35,25 @@ impl Tokens {
         }
     }
 
-    /// Keeps a connection.
+    /// Keeps a connection, where none is held.
     pub fn keep_connection(&mut self, connection: Connection)
+        requires free { self.old.connection ≡ None }
         ensures { self.new ≡ record { connection = Some connection; session = self.old.session } }
     {
-        if let Some(older) = mem::replace(&mut self.connection, Some(connection)) {
-            older.retire();
+        match mem::replace(&mut self.connection, Some(connection)) {
+            None => {}
+            Some(_) => unreachable!(),
         }
     }
 
-    /// Keeps a session.
+    /// Keeps a session, where none is held.
     pub fn keep_session(&mut self, session: Session)
+        requires free { self.old.session ≡ None }
         ensures { self.new ≡ record { connection = self.old.connection; session = Some session } }
     {
-        if let Some(older) = mem::replace(&mut self.session, Some(session)) {
-            older.retire();
+        match mem::replace(&mut self.session, Some(session)) {
+            None => {}
+            Some(_) => unreachable!(),
         }
     }
 

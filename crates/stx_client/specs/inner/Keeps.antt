@@ -1,6 +1,7 @@
 -- What the fields of a client keep true.
-use Rattle.std.specs.Prelude.{◌≡◌, ◌<◌, ℕ, Bool, true, false, List, ◌∷◌, ◌++◌, length}
+use Rattle.std.specs.Prelude.{◌≡◌, ◌<◌, ℕ, Bool, true, false, List, ◌∷◌, ◌++◌, length, None, ⊤}
 use Rattle.stx_scenario.specs.declared.scenario.Scenario.{Scenario}
+use Rattle.stx_base.specs.declared.call.Want.{Want}
 use Rattle.stx_base.specs.declared.history.Note.{Note}
 use Rattle.stx_base.specs.declared.history.PoolNote.{PoolNote}
 use Rattle.stx_base.specs.declared.history.StoreNote.{StoreNote}
@@ -18,6 +19,12 @@ use Rattle.stx_machine.specs.Sound.{IsSound, held, held_out}
 abbrev pub held_if : Bool → Stage → Tokens
 held_if true stage = held_out stage
 held_if false stage = held stage
+
+-- what a call brings isn't held yet
+abbrev pub Lacks : Want → Tokens → Type 0
+Lacks Want.Take tokens = tokens.connection ≡ None
+Lacks Want.Begin tokens = tokens.session ≡ None
+Lacks _ tokens = ⊤
 
 -- what the machine leaves of the script of client n, whatever notes are still to come after those taken in
 abbrev pub RunsOn : Scenario → ℕ → Machine → List PoolNote → List StoreNote → Type 0

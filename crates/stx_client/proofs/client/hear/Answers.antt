@@ -14,16 +14,16 @@ returns-in_err-reserve-2-clause-starts c =
     let (more, is) = with_starts c.args.setup.now.scenario c.args.number c.args.machine.now c.args.note in
     (more, is ∙ ap (λ lines. lines ++ more) (sym c.reserve-2.ensures.said))
 
-goes_on : (c : After-fall) → GoesOn c.args.setup.now.scenario c.args.number c.args.note c.args.machine.now c.fall.new.self
+goes_on : (c : After-fall) → GoesOn c.args.setup.now.scenario c.args.number c.args.note c.args.machine.now c.fall.new.machine
 goes_on c =
-    heard_goes c.args.setup.now.scenario c.args.number c.args.note c.args.machine.now c.reserve-2.new.self c.hear.new.self c.fall.new.self
+    heard_goes c.args.setup.now.scenario c.args.number c.args.note c.args.machine.now c.reserve-2.new.self c.hear.new.machine c.fall.new.machine
     c.reserve-2.ensures.said c.reserve-2.ensures.calls c.reserve-2.ensures.rest c.hear.ensures.goes c.fall.ensures.goes
 
 pub returns-clause-starts : goal.returns-clause-starts
-returns-clause-starts c = goes_starts c.args.setup.now.scenario c.args.number c.args.note c.args.machine.now c.fall.new.self (goes_on c)
+returns-clause-starts c = goes_starts c.args.setup.now.scenario c.args.number c.args.note c.args.machine.now c.fall.new.machine (goes_on c)
 
 pub returns-clause-longer : goal.returns-clause-longer
 returns-clause-longer c =
-    stays_said c.args.setup.now.scenario c.args.number c.args.note c.args.machine.now c.fall.new.self (held c.fall.new.self.stage) c.fall.result (goes_on c)
+    stays_said c.args.setup.now.scenario c.args.number c.args.note c.args.machine.now c.fall.new.machine (held c.fall.new.machine.stage) c.fall.result (goes_on c)
     c.fall.ensures.sound c.fall.ensures.waits
-    (on_err_within _ _ _ c.fall.result (subst (λ lines. length lines ≤ length c.hear.new.self.lines.items) c.reserve-2.ensures.said c.hear.ensures.longer) c.fall.ensures.kept)
+    (on_err_within _ _ _ c.fall.result (subst (λ lines. length lines ≤ length c.hear.new.machine.lines.items) c.reserve-2.ensures.said c.hear.ensures.longer) c.fall.ensures.kept)

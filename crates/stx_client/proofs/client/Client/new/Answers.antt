@@ -10,7 +10,7 @@ use Rattle.stx_client.specs.inner.Keeps.{IsWaiting, RunsOn}
 use Rattle.stx_client.proofs.ClientLaws.{is_going, reads_now, said_now, starts_now}
 use Rattle.stx_client.proofs.client.Client.new.Goals as goal
 
-runs_first : (c : goal.In_ok-fall) → RunsOn c.args.setup.now.scenario c.args.number c.fall.new.self c.in_ok-notes.notes.pool.items c.in_ok-notes.notes.store.items
+runs_first : (c : goal.In_ok-fall) → RunsOn c.args.setup.now.scenario c.args.number c.fall.new.machine c.in_ok-notes.notes.pool.items c.in_ok-notes.notes.store.items
 unfolding script
 runs_first c p s =
     let S = c.args.setup.now.scenario in
@@ -23,9 +23,9 @@ runs_first c p s =
     ∙ (λ i. tops_from S n 0 (record { lines = sym lines_are i; context = sym context_is i; local = sym local_is i; pool = p; store = s }))
     ∙ c.call_at.ensures.goes p s ∙ c.fall.ensures.goes p s
 
-waits : (c : goal.In_ok-fall) → falls c.fall.new.self.stage ≡ false → IsWaiting c.args.setup.now.scenario c.fall.new.self (held c.fall.new.self.stage)
+waits : (c : goal.In_ok-fall) → falls c.fall.new.machine.stage ≡ false → IsWaiting c.args.setup.now.scenario c.fall.new.machine (held c.fall.new.machine.stage)
 waits c still =
-    let m = c.fall.new.self in
+    let m = c.fall.new.machine in
     record {
       sound = c.fall.ensures.sound;
       waits = still;
@@ -39,7 +39,7 @@ invariant_of-result c = (
     client = c.requires.client;
     waiting = λ _. waits c c.in_ok-fall.ensures.waits;
     runs = λ _. runs_first c;
-    starts = starts_now c.args.setup.now.scenario c.args.number c.fall.new.self c.in_ok-notes.notes.pool.items c.in_ok-notes.notes.store.items (runs_first c);
+    starts = starts_now c.args.setup.now.scenario c.args.number c.fall.new.machine c.in_ok-notes.notes.pool.items c.in_ok-notes.notes.store.items (runs_first c);
   },
   record { pool = λ _. c.in_ok-notes.ensures.pool.1; store = λ _. c.in_ok-notes.ensures.store.1 },
 )
@@ -48,7 +48,7 @@ pub returns-clause-client : goal.returns-clause-client
 returns-clause-client c =
     let S = c.args.setup.now.scenario in
     let n = c.args.number in
-    let m = c.fall.new.self in
+    let m = c.fall.new.machine in
     let no_pool = c.in_ok-notes.ensures.pool.0 in
     let no_store = c.in_ok-notes.ensures.store.0 in
     let ok : has_failed m.stage ≡ false = (waits c c.in_ok-fall.ensures.waits).going in
@@ -59,5 +59,5 @@ returns-clause-client c =
 
 pub returns-clause-read : goal.returns-clause-read
 returns-clause-read c =
-    reads_now c.args.setup.now.scenario c.args.number c.fall.new.self c.in_ok-notes.notes.pool.items c.in_ok-notes.notes.store.items (runs_first c)
-    (held c.fall.new.self.stage) (waits c c.in_ok-fall.ensures.waits)
+    reads_now c.args.setup.now.scenario c.args.number c.fall.new.machine c.in_ok-notes.notes.pool.items c.in_ok-notes.notes.store.items (runs_first c)
+    (held c.fall.new.machine.stage) (waits c c.in_ok-fall.ensures.waits)

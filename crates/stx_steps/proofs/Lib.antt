@@ -1,0 +1,5 @@
+pub mod Dealings
+pub mod RoundLaws
+pub mod BodyLaws
+pub mod Hearing
+pub mod Falling
