@@ -110,8 +110,11 @@ pub(crate) fn take_turn<V: Logged, R: Wait>(
         if found == word {
             return found;
         }
+        // Where another seat is on its turn, a thread that could run goes first; else only the guess was old.
+        if found % 2 == 1 {
+            thread::yield_now();
+        }
         word = found + found % 2;
-        thread::yield_now();
     }
     unreachable!()
 }
