@@ -1,6 +1,6 @@
 -- The end of a scope: which actions are due, before and after each round.
 use Rattle.std.proofs.Common.{◌≡◌, ℕ, zero, suc, Bool, true, false, List, [], ◌∷◌, Option, Some, None, refl, sym, ap, ◌∙◌}
-use Rattle.std.specs.Prelude.{◌||◌, ◌&&◌, not, ⊤}
+use Rattle.std.specs.Prelude.{◌||◌, ◌&&◌, not, ⊤, IfSome}
 use Rattle.std.specs.Option.{is_some}
 use Rattle.std.proofs.lemmas.Bool.{false≢true, and_parts}
 use Rattle.stx_scenario.specs.declared.numbers.ClassNo.{ClassNo}
@@ -15,7 +15,7 @@ use Rattle.stx_model.specs.Meanings.{State, Result, Over, Stops, Breaks, Meaning
 use Rattle.stx_model.specs.Rounds.{Calls, last_round, round_of, stopping_round, swallowing_round, swallows, told}
 use Rattle.stx_model.specs.Scopes.{Scope, acts, completes, later_or}
 use Rattle.stx_manager.specs.Scopes.{OpenScope}
-use Rattle.stx_machine.specs.Machine.{rest_after, round_if}
+use Rattle.stx_machine.specs.Machine.{rest_after, round_if, round_in}
 use Rattle.stx_machine.specs.Sound.{Bond, Unbound, Runs, Ended, Standing, below_rest, below_scope, due_after, due_in, ends_syncs, has_own, has_own_of, has_point, is_due, is_point, is_unbound, may_end, releases, standing_under, without_own}
 
 -- ---- how a scope may end
@@ -280,20 +280,34 @@ module _ (S : Scenario) (calls : Calls) where
         (swallowing_never Round.AfterCompletion committed (ordered (registered st.context.syncs)) (with_context (without_syncs st.context) st)) (λ u. refl)
     after_completion_of false committed = refl
 
-    pub before_completion : (committed : Bool) → acts S calls scope (Action.RoundBeforeCompletion ∷ rest) x st
+    before_completion : (committed : Bool) → acts S calls scope (Action.RoundBeforeCompletion ∷ rest) x st
         ≡ finally (round_if S calls scope.owns Round.BeforeCompletion committed st) (after scope.kind Round.BeforeCompletion)
     unfolding acts
     before_completion committed = before_completion_of scope.owns
 
-    pub after_commit : (committed : Bool) → acts S calls scope (Action.RoundAfterCommit ∷ rest) x st
+    after_commit : (committed : Bool) → acts S calls scope (Action.RoundAfterCommit ∷ rest) x st
         ≡ finally (round_if S calls scope.owns Round.AfterCommit committed st) (after scope.kind Round.AfterCommit)
     unfolding acts
     after_commit committed = refl
 
-    pub after_completion : (committed : Bool) → acts S calls scope (Action.RoundAfterCompletion committed ∷ rest) x st
+    after_completion : (committed : Bool) → acts S calls scope (Action.RoundAfterCompletion committed ∷ rest) x st
         ≡ finally (round_if S calls scope.owns Round.AfterCompletion committed st) (after scope.kind Round.AfterCompletion)
     unfolding acts
     after_completion committed = after_completion_of scope.owns committed
+
+    -- a round, whichever it is, and the actions after it
+    pub round_first : (a : Action) → IfSome (round_in a) (λ r. acts S calls scope (a ∷ rest) x st ≡ finally (round_if S calls scope.owns r.0 r.1 st) (after scope.kind r.0))
+    round_first Action.RoundBeforeCompletion = before_completion false
+    round_first Action.RoundAfterCommit = after_commit true
+    round_first (Action.RoundAfterCompletion committed) = after_completion committed
+    round_first Action.CommitStore = tt
+    round_first Action.RollbackStore = tt
+    round_first Action.BackToPoint = tt
+    round_first Action.ReleasePoint = tt
+    round_first Action.MarkGlobally = tt
+    round_first Action.ThrowUnexpected = tt
+    round_first Action.GiveBack = tt
+    round_first Action.Resumption = tt
 
   -- the before_commit round of a scope that is to commit
   module _ (scope : Scope) (e : Ending) (x : Option ClassNo) (st : State) where

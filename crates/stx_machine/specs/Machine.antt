@@ -648,6 +648,13 @@ IsIntercepting _ = ⊥
 abbrev pub acts_of : Scenario → Intercepted → List Action → Option ClassNo → Meaning
 acts_of S call rest x st = finally (acts S (inside S call.method) (scope_of call.method call.interception) rest x st) (caught S call.catch)
 
+-- the round that an action is, with what it tells of the transaction
+abbrev pub round_in : Action → Option (Round × Bool)
+round_in Action.RoundBeforeCompletion = Some (Round.BeforeCompletion, false)
+round_in Action.RoundAfterCommit = Some (Round.AfterCommit, true)
+round_in (Action.RoundAfterCompletion committed) = Some (Round.AfterCompletion, committed)
+round_in _ = None
+
 -- what a round and the actions after it are to a call's caller, where the scope owns synchronisation; else only the actions
 abbrev pub round_if : Scenario → Calls → Bool → Round → Bool → Meaning
 round_if S calls owns round committed st = elim owns [ true ↦ whole_round S calls round committed st | false ↦ Over None st ]

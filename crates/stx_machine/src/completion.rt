@@ -11,7 +11,7 @@ ghost use Rattle.stx_model.specs.Playable.{IsPlayable};
 ghost use Rattle.stx_model.specs.Scopes.{is_set, rolls};
 ghost use Rattle.stx_context.specs.Carrying.{bare, context_of};
 ghost use Rattle.stx_machine.specs.declared.stage.Stage.{Stage as StageData};
-ghost use Rattle.stx_machine.specs.Machine.{AreTold, Comes, HasTransaction, IsClass, IsIntercepting, IsLonger, IsPushed, Moves, MovesLines, ResumesOn, Rules, acts_of, attribute_of as attribute_at, completes_of, ends_of, left, left_of, live_of, of_top, on_top, put_back, stack, rounds_of, left_after};
+ghost use Rattle.stx_machine.specs.Machine.{AreTold, Comes, HasTransaction, IsClass, IsIntercepting, IsLonger, IsPushed, Moves, MovesLines, ResumesOn, Rules, acts_of, attribute_of as attribute_at, completes_of, ends_of, left, left_of, live_of, of_top, on_top, put_back, stack, rounds_of, left_after, round_in};
 ghost use Rattle.stx_machine.specs.Sound.{CallResumes, Ended, IsApart, IsCompleting, IsEnding, IsEndingSo, IsSound, below_rest, below_scope, bond_of, has_ended, has_point, held, no_tokens, one_less, rank_at, runs, standing_of, IsAtRound, below_round};
 
 use crate::calls::attribute_of;
@@ -47,6 +47,18 @@ fn decision(setup: &Setup, method: MethodNo, thrown: ClassNo) -> Decision
 {
     let rules = &attribute_of(setup, method).rules;
     decide(&setup.classes, &setup.scenario, rules, thrown)
+}
+
+// The round that an action is, and what its callbacks are told of the transaction, if it is one.
+fn round_of(action: Action) -> Option<(Round, bool)>
+    ensures { result ≡ round_in action }
+{
+    match action {
+        Action::RoundBeforeCompletion => Some((Round::BeforeCompletion, false)),
+        Action::RoundAfterCommit => Some((Round::AfterCommit, true)),
+        Action::RoundAfterCompletion { committed } => Some((Round::AfterCompletion, committed)),
+        _ => None,
+    }
 }
 
 // Whether a scope that ends so has a before_commit round first (`triggerBeforeCommit`).
@@ -279,40 +291,43 @@ impl Machine {
         ensures sound { IsSound setup.now.scenario self.new (held self.new.stage) }
         ensures moves { Moves (4 * (length rest.now + 1)) self.old self.new }
     {
+        match round_of(action) {
+            Some((round, committed)) => self.begin_round(
+                call,
+                Course {
+                    round,
+                    committed,
+                    rest,
+                    thrown,
+                },
+            ),
+            None => self.carry_out(setup, call, action, rest, thrown),
+        }
+    }
+
+    // An action that is no round.
+    fn carry_out(
+        &mut self,
+        setup: &Setup,
+        call: Intercepted,
+        action: Action,
+        rest: &'static [Action],
+        thrown: Option<ClassNo>,
+    )
+        requires no_round { round_in action ≡ None }
+        requires completing { IsCompleting setup.now.scenario (rank_at setup.now.scenario self.old) call (standing_of self.old.context) (action ∷ rest.now) thrown }
+        requires apart { IsApart setup.now.scenario self.old (below_rest call.interception.scope (action ∷ rest.now) (standing_of self.old.context)) }
+        requires playable { IsPlayable setup.now.scenario }
+        requires lines { 1 ≤ self.old.lines.spare }
+        requires frames { 1 ≤ self.old.frames.spare }
+        ensures goes { Comes setup.now.scenario self.old (acts_of setup.now.scenario call (action ∷ rest.now) thrown) self.new }
+        ensures sound { IsSound setup.now.scenario self.new (held self.new.stage) }
+        ensures moves { Moves (4 * (length rest.now + 1)) self.old self.new }
+    {
         match action {
-            Action::RoundBeforeCompletion => {
-                self.begin_round(
-                    call,
-                    Course {
-                        round: Round::BeforeCompletion,
-                        committed: false,
-                        rest,
-                        thrown,
-                    },
-                );
-            }
-            Action::RoundAfterCommit => {
-                self.begin_round(
-                    call,
-                    Course {
-                        round: Round::AfterCommit,
-                        committed: true,
-                        rest,
-                        thrown,
-                    },
-                );
-            }
-            Action::RoundAfterCompletion { committed } => {
-                self.begin_round(
-                    call,
-                    Course {
-                        round: Round::AfterCompletion,
-                        committed,
-                        rest,
-                        thrown,
-                    },
-                );
-            }
+            Action::RoundBeforeCompletion
+            | Action::RoundAfterCommit
+            | Action::RoundAfterCompletion { .. } => unreachable!(),
             Action::CommitStore => {
                 let tx = self.end_session();
                 self.put_back(call, Phase::Completing { rest, thrown });
