@@ -30,6 +30,10 @@ const WORD: usize = 0;
 
 const SLOT: usize = 0;
 
+/// How often a thread lets others run, at most, before it tries again: the longer it waits, the longer the seat that is on its
+/// turn goes on with the value in its processor's cache.
+const MOST_YIELDS: u32 = 1024;
+
 /// Tries to win the turn where the word is `word`. It gives the word that it found.
 fn win<V: Logged>(shared: &Shared<V>, place: &mut Place<V>, word: u64) -> u64
     requires even { (word % 2 ≡ 0) × (word ≤ 2 ^ 63) }
@@ -92,6 +96,13 @@ fn leave<V: Logged>(shared: &Shared<V>, place: &mut Place<V>, value: V)
     shared.fetch_sub::<Leave>(place, WORD, 1);
 }
 
+/// Lets other threads run, so many times.
+fn make_way(times: u32) {
+    for _ in 0..times {
+        thread::yield_now();
+    }
+}
+
 /// Waits for the seat's turn, and gives the word at which it came. The first guess is that the history is `length` long.
 pub(crate) fn take_turn<V: Logged, R: Wait>(
     rt: &R,
@@ -105,14 +116,16 @@ pub(crate) fn take_turn<V: Logged, R: Wait>(
     ensures won { IsWon V.fixed V.entries V.maker V.legal place.old.me result place.new.me }
 {
     let mut word = 2 * length;
+    let mut patience = 1;
     for _ in rt.forever() {
         let found = win(shared, place, word);
         if found == word {
             return found;
         }
-        // Where another seat is on its turn, a thread that could run goes first; else only the guess was old.
+        // Where another seat is on its turn, threads that could run go first; else only the guess was old.
         if found % 2 == 1 {
-            thread::yield_now();
+            make_way(patience);
+            patience = patience.saturating_mul(2).min(MOST_YIELDS);
         }
         word = found + found % 2;
     }
