@@ -6,6 +6,7 @@ pub mod SerialJournal
 pub mod SerialLaw
 pub mod Small
 pub mod Traces
+pub mod Passages
 pub mod Tables
 pub mod JoinRows
 pub mod PointRows
