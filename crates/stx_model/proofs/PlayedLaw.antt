@@ -39,6 +39,10 @@ record Holder {E : Type 0} (has : List E → ℕ → List ℕ) (clients : ℕ) (
   below : client < clients
   holds : contains (has H client) n ≡ true
 
+-- each number that is in the whole, a client has
+abbrev IsHeld : {E : Type 0} → (List E → ℕ → List ℕ) → (List E → List ℕ) → ℕ → List E → Type 0
+IsHeld has whole clients H = (n : ℕ) → contains (whole H) n ≡ true → Holder has clients H n
+
 -- it stays one after an entry of its own that leaves the number, and after any entry of another client
 holder_kept : {E : Type 0} (has : List E → ℕ → List ℕ) (clients : ℕ) (H : List E) (e : E) (n by : ℕ) (was : Holder has clients H n)
     → (by ≡ was.client → contains (has (H ++ e ∷ []) was.client) n ≡ true)
@@ -54,16 +58,14 @@ holder_kept has clients H e n by was own other = record {
 
 -- ---- what is out has an owner
 
--- a client that has the connection out in its own notes
 abbrev own_out : List PoolEntry → ℕ → List ℕ
 own_out H client = out (pool_notes_of H client)
 
 abbrev Owner : ℕ → List PoolEntry → ℕ → Type 0
-Owner clients H n = Holder own_out clients H n
+Owner = Holder own_out
 
--- each connection that is out has an owner
 abbrev IsOwned : ℕ → List PoolEntry → Type 0
-IsOwned clients H = (n : ℕ) → contains (out (pool_notes H)) n ≡ true → Owner clients H n
+IsOwned = IsHeld own_out (λ H. out (pool_notes H))
 
 -- the owner stays one where the entry doesn't give the connection
 owner_kept : (clients : ℕ) (H : List PoolEntry) (e : PoolEntry) (n : ℕ) → Owner clients H n
@@ -102,16 +104,11 @@ none_out clients size H legal none = none_live (out (pool_notes H)) (λ n. elim 
 
 -- ---- what lives was begun by a client
 
--- a client that began the transaction in its own notes
 abbrev own_begun : List StoreEntry → ℕ → List ℕ
 own_begun H client = begun (store_notes_of H client)
 
-abbrev Beginner : ℕ → List StoreEntry → ℕ → Type 0
-Beginner clients H t = Holder own_begun clients H t
-
--- each transaction that was begun has a beginner
 abbrev IsBegun : ℕ → List StoreEntry → Type 0
-IsBegun clients H = (t : ℕ) → contains (begun (store_notes H)) t ≡ true → Beginner clients H t
+IsBegun = IsHeld own_begun (λ H. begun (store_notes H))
 
 contains_begun-push : (ns : List StoreNote) (n : StoreNote) (t : ℕ) → contains (begun (ns ++ n ∷ [])) t ≡ (contains (begun ns) t || contains (begun (n ∷ [])) t)
 contains_begun-push ns n t = ap (λ us. contains us t) (begun-push ns n) ∙ list_any-append (λ m. m == t) (begun ns) (begun (n ∷ []))
@@ -132,7 +129,7 @@ begun_more clients facts H e was fits t there = elim (or_cases (contains (begun 
     now : (contains (begun (store_notes H)) t || contains (begun (e.note ∷ [])) t) ≡ true
     now = sym (ap (λ ns. contains (begun ns) t) (store_notes-push H e) ∙ contains_begun-push (store_notes H) e.note t) ∙ there
 
-    kept : Beginner clients H t → Beginner clients (H ++ e ∷ []) t
+    kept : Holder own_begun clients H t → Holder own_begun clients (H ++ e ∷ []) t
     kept by = holder_kept own_begun clients H e t e.client by (λ own.
         ap (λ ns. contains (begun ns) t) (store_notes_of-push H e by.client own)
         ∙ contains_begun-push (store_notes_of H by.client) e.note t
@@ -140,7 +137,7 @@ begun_more clients facts H e was fits t there = elim (or_cases (contains (begun 
         (λ other. ap begun (store_notes_of-push_other H e by.client other))
 
 -- a transaction that lives in the whole lives in the notes of its beginner
-lives_at_beginner : (clients : ℕ) (H : List StoreEntry) (t : ℕ) (by : Beginner clients H t) → list_any (ends t) (store_notes H) ≡ false
+lives_at_beginner : (clients : ℕ) (H : List StoreEntry) (t : ℕ) (by : Holder own_begun clients H t) → list_any (ends t) (store_notes H) ≡ false
     → is_live (store_notes_of H by.client) t ≡ true
 lives_at_beginner clients H t by unended =
     is_live-parts (store_notes_of H by.client) t
@@ -153,7 +150,7 @@ none_lives : (clients : ℕ) (facts : StoreFacts) (H : List StoreEntry) → Stor
 none_lives clients facts H legal none = none_live (live (store_notes H)) (λ t. elim (cases_Bool (is_live (store_notes H) t)) [
   | inl lives ↦
       let parts = and_parts (contains (begun (store_notes H)) t) (not (list_any (ends t) (store_notes H))) (sym (is_live-parts (store_notes H) t) ∙ lives) in
-      let by : Beginner clients H t = StoreLegal-along clients facts (IsBegun clients) (λ u h. absurd (false≢true h)) (begun_more clients facts) H legal t parts.0 in
+      let by : Holder own_begun clients H t = StoreLegal-along clients facts (IsBegun clients) (λ u h. absurd (false≢true h)) (begun_more clients facts) H legal t parts.0 in
       let own : is_live (store_notes_of H by.client) t ≡ true = lives_at_beginner clients H t by (not-true (list_any (ends t) (store_notes H)) parts.1) in
       absurd (false≢true (ap (λ ts. contains ts t) (sym (none by.client by.below)) ∙ own))
   | inr absent ↦ absent
