@@ -132,16 +132,23 @@ module _ (facts : StoreFacts) (H : List StoreEntry) (owed len capacity count : �
       let one = owed-one e fits was in
       spent-kept facts H owed len capacity keeps.entries e fits was items (owed - 1) len' capacity' is (omega arith) longer same
 
+  -- a note that commits nothing, for whose entry room was kept
+  spent-all : (e : StoreEntry) → StoreFits most_clients facts H e → begun (e.note ∷ []) ≡ [] → commits H e ≡ [] → IsTrue (was_owed e.note)
+      → (items : List StoreEntry) (len' capacity' : ℕ) (locks' : LockMap) (rows' : RowsView) → items ≡ H ++ e ∷ [] → len' ≡ len + 1 → capacity' ≡ capacity
+      → KeepsRows facts (H ++ e ∷ []) locks' rows' → KeepsAll facts items (owed - 1) len' capacity' count locks' rows' journal'
+  spent-all e fits none uncommitted was items len' capacity' locks' rows' is longer same rows_are =
+      together facts H items e (owed - 1) len' capacity' count locks' rows' journal' is (spent e fits was items len' capacity' is longer same) (counted e none) rows_are
+      (unlisted e journal' fits uncommitted refl) (let room = keeps.state.room in omega arith)
+
   pub core-returned : (c t : ℕ) → StoreFits most_clients facts H (entry c (StoreNote.BackTo t)) → (items : List StoreEntry) (len' capacity' : ℕ) (rows' : RowsView)
       → items ≡ H ++ entry c (StoreNote.BackTo t) ∷ [] → len' ≡ len + 1 → capacity' ≡ capacity → ((k : ℕ) → get rows'.values k ≡ get (put_back_last rows.values (stack_of rows t)) k) → HasStack rows t (option_map emptied (get rows.older t)) rows'
       → KeepsAll facts items (owed - 1) len' capacity' count locks rows' journal'
   core-returned c t fits items len' capacity' rows' is longer same values stack =
       let e = entry c (StoreNote.BackTo t) in
       let mine : names t (StoreNote.BackTo t) ≡ true = eq-eqb t t refl in
-      together facts H items e (owed - 1) len' capacity' count locks rows' journal' is (spent e fits refl items len' capacity' is longer same) (counted e refl)
+      spent-all e fits refl refl refl items len' capacity' locks rows' is longer same
       (rows-returned facts H locks rows keeps.state.rows_are c t rows' (apart e fits) (alive c t (StoreNote.BackTo t) fits mine refl)
       (pointed-for c t (StoreNote.BackTo t) fits mine refl (can_pointed (savepoints (store_notes_of H c) t) (back_parts (store_notes_of H c) t fits.proper))) values stack)
-      (unlisted e journal' fits refl refl) (let room = keeps.state.room in omega arith)
 
   pub core-released : (c t : ℕ) → StoreFits most_clients facts H (entry c (StoreNote.Release t)) → (items : List StoreEntry) (len' capacity' : ℕ) (rows' : RowsView)
       → items ≡ H ++ entry c (StoreNote.Release t) ∷ [] → len' ≡ len + 1 → capacity' ≡ capacity → SameValues rows rows' → HasStack rows t (option_map dropped (get rows.older t)) rows'
@@ -149,19 +156,17 @@ module _ (facts : StoreFacts) (H : List StoreEntry) (owed len capacity count : �
   core-released c t fits items len' capacity' rows' is longer same values stack =
       let e = entry c (StoreNote.Release t) in
       let mine : names t (StoreNote.Release t) ≡ true = eq-eqb t t refl in
-      together facts H items e (owed - 1) len' capacity' count locks rows' journal' is (spent e fits refl items len' capacity' is longer same) (counted e refl)
+      spent-all e fits refl refl refl items len' capacity' locks rows' is longer same
       (rows-released facts H locks rows keeps.state.rows_are c t rows' (apart e fits) (alive c t (StoreNote.Release t) fits mine refl)
       (pointed-for c t (StoreNote.Release t) fits mine refl (release_parts (store_notes_of H c) t fits.proper)) values stack)
-      (unlisted e journal' fits refl refl) (let room = keeps.state.room in omega arith)
 
   pub core-undone : (c t : ℕ) → StoreFits most_clients facts H (entry c (StoreNote.Rollback t)) → (items : List StoreEntry) (len' capacity' : ℕ) (locks' : LockMap) (rows' : RowsView)
       → items ≡ H ++ entry c (StoreNote.Rollback t) ∷ [] → len' ≡ len + 1 → capacity' ≡ capacity → ((k : ℕ) → get locks' k ≡ unless_held_by t (get locks k))
       → ((k : ℕ) → get rows'.values k ≡ get (put_back_all rows.values (stack_of rows t)) k) → HasStack rows t None rows' → KeepsAll facts items (owed - 1) len' capacity' count locks' rows' journal'
   core-undone c t fits items len' capacity' locks' rows' is longer same freed values stack =
       let e = entry c (StoreNote.Rollback t) in
-      together facts H items e (owed - 1) len' capacity' count locks' rows' journal' is (spent e fits refl items len' capacity' is longer same) (counted e refl)
+      spent-all e fits refl refl refl items len' capacity' locks' rows' is longer same
       (rows-undone facts H locks rows keeps.state.rows_are c t locks' rows' (apart e fits) (alive c t (StoreNote.Rollback t) fits (eq-eqb t t refl) refl) freed values stack)
-      (unlisted e journal' fits refl refl) (let room = keeps.state.room in omega arith)
 
   -- the number of the next commit
   pub next-number : length journal'.list ≡ length (journal H)

@@ -24,13 +24,7 @@ WorksLive notes n = (t : ℕ) → list_any (ends t) notes ≡ true → works t n
 
 committed_same : (notes : List StoreNote) (n : StoreNote) (c : ℕ) (m : StoreNote) → ((t : ℕ) → ends t m ≡ true → works t n ≡ false) → committed_note (notes ++ n ∷ []) c m ≡ committed_note notes c m
 committed_same notes n c (StoreNote.Commit t k) apart = ap (λ w. Some (record { client = c; tx = Some t; work = w })) (work_same notes n t (apart t (eq-eqb t t refl)))
-committed_same notes n c (StoreNote.Auto a r) apart = refl
-committed_same notes n c (StoreNote.Begin t) apart = refl
-committed_same notes n c (StoreNote.Access t a r) apart = refl
-committed_same notes n c (StoreNote.Point t) apart = refl
-committed_same notes n c (StoreNote.BackTo t) apart = refl
-committed_same notes n c (StoreNote.Release t) apart = refl
-committed_same notes n c (StoreNote.Rollback t) apart = refl
+committed_same notes n c m apart = refl
 
 or_left : (a b : Bool) → a ≡ true → (a || b) ≡ true
 or_left true b h = refl
