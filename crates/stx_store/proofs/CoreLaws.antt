@@ -144,20 +144,18 @@ module _ (facts : StoreFacts) (H : List StoreEntry) (owed len capacity count : �
       → items ≡ H ++ entry c (StoreNote.BackTo t) ∷ [] → len' ≡ len + 1 → capacity' ≡ capacity → ((k : ℕ) → get rows'.values k ≡ get (put_back_last rows.values (stack_of rows t)) k) → HasStack rows t (option_map emptied (get rows.older t)) rows'
       → KeepsAll facts items (owed - 1) len' capacity' count locks rows' journal'
   core-returned c t fits items len' capacity' rows' is longer same values stack =
-      let e = entry c (StoreNote.BackTo t) in
       let mine : names t (StoreNote.BackTo t) ≡ true = eq-eqb t t refl in
-      spent-all e fits refl refl refl items len' capacity' locks rows' is longer same
-      (rows-returned facts H locks rows keeps.state.rows_are c t rows' (apart e fits) (alive c t (StoreNote.BackTo t) fits mine refl)
+      spent-all (entry c (StoreNote.BackTo t)) fits refl refl refl items len' capacity' locks rows' is longer same
+      (rows-returned facts H locks rows keeps.state.rows_are c t rows' (apart (entry c (StoreNote.BackTo t)) fits) (alive c t (StoreNote.BackTo t) fits mine refl)
       (pointed-for c t (StoreNote.BackTo t) fits mine refl (can_pointed (savepoints (store_notes_of H c) t) (back_parts (store_notes_of H c) t fits.proper))) values stack)
 
   pub core-released : (c t : ℕ) → StoreFits most_clients facts H (entry c (StoreNote.Release t)) → (items : List StoreEntry) (len' capacity' : ℕ) (rows' : RowsView)
       → items ≡ H ++ entry c (StoreNote.Release t) ∷ [] → len' ≡ len + 1 → capacity' ≡ capacity → SameValues rows rows' → HasStack rows t (option_map dropped (get rows.older t)) rows'
       → KeepsAll facts items (owed - 1) len' capacity' count locks rows' journal'
   core-released c t fits items len' capacity' rows' is longer same values stack =
-      let e = entry c (StoreNote.Release t) in
       let mine : names t (StoreNote.Release t) ≡ true = eq-eqb t t refl in
-      spent-all e fits refl refl refl items len' capacity' locks rows' is longer same
-      (rows-released facts H locks rows keeps.state.rows_are c t rows' (apart e fits) (alive c t (StoreNote.Release t) fits mine refl)
+      spent-all (entry c (StoreNote.Release t)) fits refl refl refl items len' capacity' locks rows' is longer same
+      (rows-released facts H locks rows keeps.state.rows_are c t rows' (apart (entry c (StoreNote.Release t)) fits) (alive c t (StoreNote.Release t) fits mine refl)
       (pointed-for c t (StoreNote.Release t) fits mine refl (release_parts (store_notes_of H c) t fits.proper)) values stack)
 
   pub core-undone : (c t : ℕ) → StoreFits most_clients facts H (entry c (StoreNote.Rollback t)) → (items : List StoreEntry) (len' capacity' : ℕ) (locks' : LockMap) (rows' : RowsView)

@@ -1,19 +1,18 @@
 -- What the store owes grows and shrinks with each entry.
-use Rattle.std.proofs.Common.{IsTrue, ◌≡◌, ◌≢◌, ℕ, suc, ◌+◌, ◌<◌, ◌≤◌, Bool, true, false, not, ◌&&◌, ◌||◌, cond, List, [], ◌∷◌, ◌++◌, length, refl, sym, ap, ◌∙◌, subst, Some, arith, eq-eqb, ne_eqb, eqb-true}
+use Rattle.std.proofs.Common.{IsTrue, ◌≡◌, ◌≢◌, ℕ, suc, ◌+◌, ◌<◌, ◌≤◌, Bool, true, false, ◌&&◌, cond, List, [], ◌∷◌, ◌++◌, length, refl, sym, ap, ◌∙◌, subst, Some, arith, eq-eqb, ne_eqb, eqb-true}
 use Rattle.std.specs.List.{list_any}
 use Rattle.std.proofs.lemmas.Bool.{false≢true, and_parts}
 use Rattle.stx_base.specs.declared.facts.StoreFacts.{StoreFacts}
 use Rattle.stx_base.specs.declared.history.StoreNote.{StoreNote}
 use Rattle.stx_base.specs.declared.history.StoreEntry.{StoreEntry}
 use Rattle.stx_base.specs.Histories.{store_notes, store_notes_of, has_room}
-use Rattle.stx_base.specs.Pools.{contains}
 use Rattle.stx_base.specs.Alone.{without_innermost}
 use Rattle.stx_base.specs.Stores.{store_reply, store_want, store_proper, begun, ends, is_live, pointed, savepoints, with_return, can_go_back, is_pointed}
 use Rattle.stx_base.specs.Legal.{StoreFits}
-use Rattle.stx_base.proofs.HistoryLaws.{sum_below, sum_below-same, sum_below-at, is_live-push, savepoints-push, store_notes_of-push, store_notes_of-push_other, none_of}
+use Rattle.stx_base.proofs.HistoryLaws.{sum_below, sum_below-same, sum_below-at, savepoints-push, store_notes_of-push, store_notes_of-push_other, none_of}
 use Rattle.stx_base.proofs.StoreLaws.{names, lives, begin_number, begun_length-push, is_live_none, is_live-push_other, savepoints_none, savepoints-push_other, Unnamed, live_below}
 use Rattle.stx_store.specs.inner.Owed.{more_owed, was_owed, costs, due, owed_to}
-use Rattle.stx_store.proofs.KeepLaws.{live_same}
+use Rattle.stx_store.proofs.KeepLaws.{live_same, dead}
 
 abbrev pub entry : ℕ → StoreNote → StoreEntry
 entry client note = record { client = client; note = note }
@@ -46,23 +45,9 @@ due_kept own n t none still =
     ap (λ b. cond b (costs (savepoints (own ++ n ∷ []) t) + 1) 0) (live_same own n t none still)
     ∙ ap (λ ps. cond (is_live own t) (costs ps + 1) 0) (savepoints-push own n t)
 
-or_true : (b : Bool) → (b || true) ≡ true
-or_true true = refl
-or_true false = refl
-
-and_false : (b : Bool) → (b && false) ≡ false
-and_false true = refl
-and_false false = refl
-
 -- an ended transaction is owed nothing
 due_ended : (own : List StoreNote) (n : StoreNote) (t : ℕ) → ends t n ≡ true → due (own ++ n ∷ []) t ≡ 0
-due_ended own n t end =
-    let dead : is_live (own ++ n ∷ []) t ≡ false =
-    is_live-push own n t
-    ∙ ap (λ b. (contains (begun own) t || contains (begun (n ∷ [])) t) && not (list_any (ends t) own || b)) end
-    ∙ ap (λ b. (contains (begun own) t || contains (begun (n ∷ [])) t) && not b) (or_true (list_any (ends t) own))
-    ∙ and_false (contains (begun own) t || contains (begun (n ∷ [])) t) in
-    ap (λ b. cond b (costs (savepoints (own ++ n ∷ []) t) + 1) 0) dead
+due_ended own n t end = ap (λ b. cond b (costs (savepoints (own ++ n ∷ []) t) + 1) 0) (dead own n t end)
 
 due_begun : (own : List StoreNote) (t : ℕ) → list_any (names t) own ≡ false → due (own ++ StoreNote.Begin t ∷ []) t ≤ 1
 due_begun own t none =
