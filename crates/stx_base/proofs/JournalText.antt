@@ -25,12 +25,7 @@ counted notes c number (StoreNote.Auto a r) rest =
       | true ↦ refl
       | false ↦ omega arith
     ]
-counted notes c number (StoreNote.Begin t) rest = refl
-counted notes c number (StoreNote.Access t a r) rest = refl
-counted notes c number (StoreNote.Point t) rest = refl
-counted notes c number (StoreNote.BackTo t) rest = refl
-counted notes c number (StoreNote.Release t) rest = refl
-counted notes c number (StoreNote.Rollback t) rest = refl
+counted notes c number n rest = refl
 
 numbered : (notes : List StoreNote) (number : ℕ) (es : List StoreEntry) → number_of number es ≡ number + length (filter_map (committed_by notes) es)
 numbered notes number [] = omega arith

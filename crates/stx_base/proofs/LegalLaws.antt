@@ -104,21 +104,14 @@ store_want-reply facts H (Want.Release t) note h = let is : note ≡ StoreNote.R
 store_want-reply facts H (Want.Commit t) note h = let is : note ≡ StoreNote.Commit t (length (journal H) + 1) = cc in ap store_want is
 store_want-reply facts H (Want.Rollback t) note h = let is : note ≡ StoreNote.Rollback t = cc in ap store_want is
 store_want-reply facts H (Want.Auto a) note h = let is : note ≡ StoreNote.Auto a (auto_answer facts H a) = cc in ap store_want is
-store_want-reply facts H Want.Take note h = cc
-store_want-reply facts H (Want.Give c) note h = cc
-store_want-reply facts H Want.Done note h = cc
-store_want-reply facts H Want.Failed note h = cc
+store_want-reply facts H want note h = cc
 
 -- the entry of a proper call with its reply fits
 pub StoreFits-reply : (n : ℕ) (facts : StoreFacts) (H : List StoreEntry) (c : ℕ) (want : Want) (note : StoreNote)
     → c < n → IsTrue (store_proper (store_notes_of H c) want) → store_reply facts H want ≡ Some note → StoreFits n facts H (record { client = c; note = note })
 StoreFits-reply n facts H c want note below proper reply =
-    let same = store_want-reply facts H want note reply in
-    record {
-      client = below;
-      proper = subst (λ w. IsTrue (store_proper (store_notes_of H c) w)) (sym same) proper;
-      reply = subst (λ w. store_reply facts H w ≡ Some note) (sym same) reply;
-    }
+    let own = subst (λ w. IsTrue (store_proper (store_notes_of H c) w) × (store_reply facts H w ≡ Some note)) (sym (store_want-reply facts H want note reply)) (proper, reply) in
+    record { client = below; proper = own.0; reply = own.1 }
 
 taken_or_not : (free : Option ℕ) (note : PoolNote) → Some (taken_or_empty free) ≡ Some note → pool_want note ≡ Want.Take
 taken_or_not (Some c) note h = let is : note ≡ PoolNote.Taken c = cc in ap pool_want is
@@ -128,26 +121,13 @@ pub pool_want-reply : (size : ℕ) (H : List PoolEntry) (want : Want) (note : Po
 unfolding pool_reply
 pool_want-reply size H Want.Take note h = taken_or_not _ note h
 pool_want-reply size H (Want.Give c) note h = let is : note ≡ PoolNote.Given c = cc in ap pool_want is
-pool_want-reply size H Want.Begin note h = cc
-pool_want-reply size H (Want.Access t a) note h = cc
-pool_want-reply size H (Want.Point t) note h = cc
-pool_want-reply size H (Want.BackTo t) note h = cc
-pool_want-reply size H (Want.Release t) note h = cc
-pool_want-reply size H (Want.Commit t) note h = cc
-pool_want-reply size H (Want.Rollback t) note h = cc
-pool_want-reply size H (Want.Auto a) note h = cc
-pool_want-reply size H Want.Done note h = cc
-pool_want-reply size H Want.Failed note h = cc
+pool_want-reply size H want note h = cc
 
 pub PoolFits-reply : (n size : ℕ) (H : List PoolEntry) (c : ℕ) (want : Want) (note : PoolNote)
     → c < n → IsTrue (pool_proper (pool_notes_of H c) want) → pool_reply size H want ≡ Some note → PoolFits n size H (record { client = c; note = note })
 PoolFits-reply n size H c want note below proper reply =
-    let same = pool_want-reply size H want note reply in
-    record {
-      client = below;
-      proper = subst (λ w. IsTrue (pool_proper (pool_notes_of H c) w)) (sym same) proper;
-      reply = subst (λ w. pool_reply size H w ≡ Some note) (sym same) reply;
-    }
+    let own = subst (λ w. IsTrue (pool_proper (pool_notes_of H c) w) × (pool_reply size H w ≡ Some note)) (sym (pool_want-reply size H want note reply)) (proper, reply) in
+    record { client = below; proper = own.0; reply = own.1 }
 
 -- ---- clients
 
@@ -176,16 +156,7 @@ pool_room : (own : List PoolNote) (want : Want) → IsTrue (pool_proper own want
 unfolding pool_proper
 pool_room own Want.Take proper = ltb-true (length own) (2 ^ 32) proper
 pool_room own (Want.Give c) proper = ltb-true (length own) (2 ^ 32) (and_parts (has_room own) _ proper).0
-pool_room own Want.Begin proper = cc
-pool_room own (Want.Access t a) proper = cc
-pool_room own (Want.Point t) proper = cc
-pool_room own (Want.BackTo t) proper = cc
-pool_room own (Want.Release t) proper = cc
-pool_room own (Want.Commit t) proper = cc
-pool_room own (Want.Rollback t) proper = cc
-pool_room own (Want.Auto a) proper = cc
-pool_room own Want.Done proper = cc
-pool_room own Want.Failed proper = cc
+pool_room own want proper = cc
 
 -- each client keeps few enough notes
 pub PoolLegal-own : (n size : ℕ) (H : List PoolEntry) → PoolLegal n size H → (c : ℕ) → length (pool_notes_of H c) ≤ most_notes

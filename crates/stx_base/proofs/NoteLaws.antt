@@ -66,10 +66,7 @@ store_reply-answers facts before (Want.Rollback t) note h = let is : StoreNote.R
 store_reply-answers facts before (Want.Auto a) note h =
     let is : StoreNote.Auto a (auto_answer facts before a) ≡ note = cc in
     subst (λ n. store_answers (Want.Auto a) n ≡ true) is (auto_answers a _ (suits_busy a _ _ (suits_finds _ a)))
-store_reply-answers facts before Want.Take note h = cc
-store_reply-answers facts before (Want.Give c) note h = cc
-store_reply-answers facts before Want.Done note h = cc
-store_reply-answers facts before Want.Failed note h = cc
+store_reply-answers facts before want note h = cc
 
 taken_answers : (free : Option ℕ) (note : PoolNote) → Some (taken_or_empty free) ≡ Some note → pool_answers Want.Take note ≡ true
 taken_answers (Some c) note h = let is : PoolNote.Taken c ≡ note = cc in subst (λ n. pool_answers Want.Take n ≡ true) is refl
@@ -79,16 +76,7 @@ pub pool_reply-answers : (size : ℕ) (before : List PoolEntry) (want : Want) (n
 unfolding pool_reply
 pool_reply-answers size before Want.Take note h = taken_answers _ note h
 pool_reply-answers size before (Want.Give c) note h = let is : PoolNote.Given c ≡ note = cc in subst (λ n. pool_answers (Want.Give c) n ≡ true) is (itself c)
-pool_reply-answers size before Want.Begin note h = cc
-pool_reply-answers size before (Want.Access t a) note h = cc
-pool_reply-answers size before (Want.Point t) note h = cc
-pool_reply-answers size before (Want.BackTo t) note h = cc
-pool_reply-answers size before (Want.Release t) note h = cc
-pool_reply-answers size before (Want.Commit t) note h = cc
-pool_reply-answers size before (Want.Rollback t) note h = cc
-pool_reply-answers size before (Want.Auto a) note h = cc
-pool_reply-answers size before Want.Done note h = cc
-pool_reply-answers size before Want.Failed note h = cc
+pool_reply-answers size before want note h = cc
 
 -- ---- the answer to a call is a reply of its kind
 

@@ -37,14 +37,13 @@ above_most f (n ∷ ms) bound below =
     let rest = above_most f ms bound (λ m h. below m (or_right _ _ h)) in
     omega (arith, here, rest)
 
-pub above_same :
-    (f g : MethodNo → ℕ) (ms : List MethodNo) → ((m : MethodNo) → has_method ms m ≡ true → f m ≡ g m)
-    → above (map f ms) ≡ above (map g ms)
-above_same f g [] same = refl
-above_same f g (n ∷ ms) same =
+pub map_same :
+    {X : Type 0} (f g : MethodNo → X) (ms : List MethodNo) → ((m : MethodNo) → has_method ms m ≡ true → f m ≡ g m) → map f ms ≡ map g ms
+map_same f g [] same = refl
+map_same f g (n ∷ ms) same =
     let here = same n (has_itself n ms) in
-    let rest = above_same f g ms (λ m h. same m (or_right _ _ h)) in
-    rw (here, rest)
+    let rest = map_same f g ms (λ m h. same m (or_right _ _ h)) in
+    cc
 
 -- ---- longest ways
 
@@ -67,8 +66,8 @@ pub longest_stays : (next : Next) (k : ℕ) (m : MethodNo) → longest next k m 
 unfolding longest
 longest_stays next zero m short = absurd (omega arith)
 longest_stays next (suc k) m short =
-    above_same _ _ (next m) (λ n h.
-    longest_stays next k n (let more = above_more (longest next k) (next m) n h in omega (arith, more, short)))
+    ap above (map_same _ _ (next m) (λ n h.
+    longest_stays next k n (let more = above_more (longest next k) (next m) n h in omega (arith, more, short))))
 
 pub longest_settled :
     (next : Next) (extra k j : ℕ) (m : MethodNo) → j ≡ k + extra → longest next k m < k → longest next j m ≡ longest next k m

@@ -14,7 +14,7 @@ use Rattle.stx_base.specs.declared.line.Line.{Line}
 use Rattle.stx_base.specs.Notes.{is_reply, note_of}
 use Rattle.stx_model.specs.Meanings.{Stops, state_of, stop_of}
 use Rattle.stx_model.specs.Meanings.{Result as Outcome}
-use Rattle.stx_model.specs.Reads.{ReadsAll, StartsWith}
+use Rattle.stx_model.specs.Reads.{ReadsAll, StartsWith, pool_with, store_with}
 use Rattle.stx_model.specs.Script.{script}
 use Rattle.stx_machine.specs.declared.machine.Machine.{Machine}
 use Rattle.stx_machine.specs.declared.stage.Place.{Place}
@@ -25,7 +25,7 @@ use Rattle.stx_machine.specs.Machine.{Call, Goes, context_at, falls, has_failed,
 use Rattle.stx_steps.specs.Steps.{Hears}
 use Rattle.stx_machine.specs.Sound.{IsSound, StageFits}
 use Rattle.stx_machine.proofs.Growth.{run_starts, run_stops}
-use Rattle.stx_client.specs.View.{ClientView, script_of, pool_with, store_with, has_told, with_note, fed}
+use Rattle.stx_client.specs.View.{ClientView, script_of, has_told, with_note, fed}
 use Rattle.stx_client.specs.inner.Keeps.{GoesOn, IsWaiting, Keeps, RunsOn, held_if, run_with}
 
 -- ---- what is left of the script

@@ -1,5 +1,5 @@
 -- A client as contracts see it.
-use Rattle.std.specs.Prelude.{◌≡◌, ℕ, Bool, true, false, List, [], ◌∷◌, ◌++◌, Option, Some, None}
+use Rattle.std.specs.Prelude.{◌≡◌, ℕ, Bool, true, false, List, [], Option, Some, None}
 use Rattle.stx_scenario.specs.declared.scenario.Scenario.{Scenario}
 use Rattle.stx_base.specs.declared.call.Want.{Want}
 use Rattle.stx_base.specs.declared.call.Reply.{Reply}
@@ -10,7 +10,7 @@ use Rattle.stx_base.specs.declared.line.Line.{Line}
 use Rattle.stx_base.specs.Notes.{note_of}
 use Rattle.stx_model.specs.Meanings.{Result, state_of}
 use Rattle.stx_model.specs.Script.{script}
-use Rattle.stx_model.specs.Reads.{ReadsAll}
+use Rattle.stx_model.specs.Reads.{ReadsAll, pool_with, store_with}
 
 -- the notes that the client has taken in, the call that is out, whether it has failed, and the lines that it has said
 pub record ClientView : Type 0 where
@@ -51,14 +51,6 @@ new_client S n = has_told (record { scenario = S; number = n; pool = []; store =
 -- the call of this want is out
 abbrev pub calling : ClientView → Want → ClientView
 calling client w = record client { out = Some w }
-
-abbrev pub pool_with : List PoolNote → Note → List PoolNote
-pool_with notes (Note.Pool n) = notes ++ n ∷ []
-pool_with notes (Note.Store n) = notes
-
-abbrev pub store_with : List StoreNote → Note → List StoreNote
-store_with notes (Note.Pool n) = notes
-store_with notes (Note.Store n) = notes ++ n ∷ []
 
 -- the note is taken in, and no call is out
 abbrev pub with_note : ClientView → Option Note → ClientView

@@ -4,7 +4,7 @@ ghost use Rattle.stx_base.specs.declared.call.Reply.{Reply as ReplyData};
 ghost use Rattle.stx_base.specs.declared.history.Note.{Note as NoteData};
 ghost use Rattle.stx_base.specs.Notes.{is_reply_to, note_of as note_in, pool_note as pool_note_in, store_note as store_note_in};
 ghost use Rattle.stx_machine.specs.Sound.{brought};
-ghost use Rattle.stx_client.specs.View.{pool_with, store_with};
+ghost use Rattle.stx_model.specs.Reads.{pool_with, store_with};
 ghost use Rattle.stx_client.specs.inner.Keeps.{Lacks};
 
 use std::alloc::Global;

@@ -1,7 +1,7 @@
 -- Laws of the whole: what the rows, the rounds and the search tell of the scenario itself.
-use Rattle.std.proofs.Common.{◌≡◌, ℕ, zero, suc, ◌+◌, ◌-◌, ◌<◌, ◌≤◌, true, false, List, [], ◌∷◌, length, map, min, refl, sym, ◌∙◌, ap, subst, arith, ⊎_elim, ◌⊎◌, inl, inr}
+use Rattle.std.proofs.Common.{◌≡◌, ℕ, zero, suc, ◌+◌, ◌-◌, ◌<◌, ◌≤◌, false, List, [], ◌∷◌, length, map, min, refl, sym, ◌∙◌, ap, subst, arith, ⊎_elim, ◌⊎◌, inl, inr}
 use Rattle.std.specs.List.{All, flat_map, range_with_len, sum}
-use Rattle.std.proofs.lemmas.Bool.{cases_lt, false≢true, or_right}
+use Rattle.std.proofs.lemmas.Bool.{cases_lt, false≢true}
 use Rattle.std.proofs.lemmas.List.Elements.{All-head, All-tail}
 use Rattle.std.proofs.lemmas.List.FromFn.{fill_by_all}
 use Rattle.std.proofs.lemmas.Option.{slice_get_past}
@@ -10,7 +10,7 @@ use Rattle.stx_scenario.specs.declared.numbers.MethodNo.{MethodNo}
 use Rattle.stx_scenario.specs.declared.scenario.Scenario.{Scenario}
 use Rattle.stx_base.specs.declared.cost.Cost.{Cost}
 use Rattle.stx_base.specs.Weight.{body_in, led, leads, has_method, Next, LeadsTo, Way, IsOnCycle, above, longest, rank, cost, cost_within, total, client_weight, weight_of, weight, MethodsInRange, InRange}
-use Rattle.stx_base.proofs.WayLaws.{has_itself, above_more, above_most, above_same, longest_settled, longest_more, shallow, IsAcyclic}
+use Rattle.stx_base.proofs.WayLaws.{above_more, above_most, map_same, longest_settled, longest_more, shallow, IsAcyclic}
 use Rattle.stx_base.proofs.WeightLaws.{acyclic_from, cost_settled}
 use Rattle.stx_base.specs.Weight.{HasNoCycle}
 use Rattle.stx_graph.specs.inner.Rows.{next_in, Same, MethodRows}
@@ -61,7 +61,7 @@ longest_alike : (f g : Next) → Alike f g → (k : ℕ) (m : MethodNo) → long
 unfolding longest
 longest_alike f g alike zero m = refl
 longest_alike f g alike (suc k) m =
-    above_same (longest f k) (longest g k) (f m) (λ n has. longest_alike f g alike k n) ∙ above_alike (longest g k) (f m) (g m) (alike m)
+    ap above (map_same (longest f k) (longest g k) (f m) (λ n has. longest_alike f g alike k n)) ∙ above_alike (longest g k) (f m) (g m) (alike m)
 
 way_alike : (f g : Next) → Alike f g → (k : ℕ) (m n : MethodNo) → Way f k m n → Way g k m n
 way_alike f g alike zero m n way = way
@@ -169,21 +169,12 @@ short_from S rows ranks are found low m below =
 
 -- ---- weight
 
-total_same :
-    (f g : MethodNo → Cost) (calls : List MethodNo) → ((m : MethodNo) → has_method calls m ≡ true → f m ≡ g m)
-    → total (map f calls) ≡ total (map g calls)
-total_same f g [] same = refl
-total_same f g (m ∷ calls) same =
-    let here = same m (has_itself m calls) in
-    let rest = total_same f g calls (λ n h. same n (or_right _ _ h)) in
-    rw (here, rest)
-
 clients_same :
     (count : ℕ) (f g : MethodNo → Cost) → ((m : MethodNo) → m.0 < count → f m ≡ g m) → (clients : List (List MethodNo))
     → All (MethodsInRange count) clients → map (client_weight f) clients ≡ map (client_weight g) clients
 clients_same count f g same [] h = refl
 clients_same count f g same (calls ∷ clients) h =
-    let here = ap weight_of (total_same f g calls (λ m has. same m (row_below count calls (All-head (MethodsInRange count) calls clients h) m has))) in
+    let here = ap (λ costs. weight_of (total costs)) (map_same f g calls (λ m has. same m (row_below count calls (All-head (MethodsInRange count) calls clients h) m has))) in
     let rest = clients_same count f g same clients (All-tail (MethodsInRange count) calls clients h) in
     cc
 

@@ -4,7 +4,7 @@ use Rattle.std.specs.List.{All}
 use Rattle.std.proofs.lemmas.Bool.{or_cases, false≢true}
 use Rattle.std.proofs.lemmas.List.{get_or-map, get_or-replicate, length-map, length-replicate}
 use Rattle.std.proofs.lemmas.List.Elements.{All-head, All-tail, All-from_get_or}
-use Rattle.stx_base.proofs.WayLaws.{above_same, longest_within}
+use Rattle.stx_base.proofs.WayLaws.{map_same, longest_within}
 use Rattle.stx_scenario.specs.declared.numbers.MethodNo.{MethodNo}
 use Rattle.stx_base.specs.Weight.{above, longest, has_method, MethodsInRange}
 use Rattle.stx_graph.specs.inner.Rows.{next_in, row_at, RowsInRange}
@@ -51,8 +51,8 @@ round_more rows steps ranks next range are e =
       count = ap length e ∙ length-map rows (raised ranks);
       ways = λ m h.
           ap (λ ranks. rank_at ranks m) e ∙ get_or-map (raised ranks) rows m.0 [] 0 h
-          ∙ above_same (rank_at ranks) (longest (next_in rows) steps) (row_at rows m.0) (λ n has.
-          are.ways n (row_below (length rows) (row_at rows m.0) (range m.0 [] h) n has));
+          ∙ ap above (map_same (rank_at ranks) (longest (next_in rows) steps) (row_at rows m.0) (λ n has.
+          are.ways n (row_below (length rows) (row_at rows m.0) (range m.0 [] h) n has)));
     })
 
 -- after few rounds the ranks are low

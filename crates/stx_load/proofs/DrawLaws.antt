@@ -43,3 +43,10 @@ pub grown : {X : Type 0} (f : ℕ → X) (xs : List X) (n : ℕ) (x : X) → xs 
 grown f xs n x so_far one =
     ap (λ all. all ++ x ∷ []) so_far ∙ ap (λ last. map f (range_with_len 0 n) ++ last ∷ []) one
     ∙ sym (map-range_with_len_more f 0 n n (omega arith))
+
+-- so a loop goes on that makes an item of each number, and has drawn so often by each
+pub one_more : {X : Type 0} (f : ℕ → X) (x : ℕ) (drawn : ℕ → ℕ) (n : ℕ) {xs longer : List X} {item : X} {s s' : ℕ}
+    → (xs ≡ map f (range_with_len 0 n)) × (s ≡ after x (drawn n)) → longer ≡ xs ++ item ∷ []
+    → (s ≡ after x (drawn n) → item ≡ f n) → (s ≡ after x (drawn n) → s' ≡ after x (drawn (n + 1)))
+    → (longer ≡ map f (range_with_len 0 (n + 1))) × (s' ≡ after x (drawn (n + 1)))
+one_more f x drawn n so_far pushed made moved = (pushed ∙ grown f _ n _ so_far.0 (made so_far.1), moved so_far.1)

@@ -120,20 +120,23 @@ module _ (S : Scenario) (calls : Calls) (scope : Scope) (older : Context) (is_ol
   unfolding acts
   after_completion committed rest gives x st = finally_at_end (Apart older scope.outer) _ (λ _. acts S calls scope rest x) (λ y after. gives x after)
 
+  -- a call on what the context has bound
+  asks : (want : Live → Want) (rest : List Action) → Gives rest → (x : Option ClassNo) (st : State)
+      → AtEnd (live_in st.context.tx (λ live. ask (want live) (λ _. acts S calls scope rest x)) st) (Apart older scope.outer)
+  asks want rest gives x st =
+      live_at_end (Apart older scope.outer) st.context.tx _ st (λ live. ask_at_end (Apart older scope.outer) (want live) (λ _. acts S calls scope rest x) st (λ n. gives x (hear n st)))
+
   commit : (rest : List Action) → Gives rest → Gives (Action.CommitStore ∷ rest)
   unfolding acts
-  commit rest gives x st =
-      live_at_end (Apart older scope.outer) st.context.tx _ st (λ live. ask_at_end (Apart older scope.outer) (Want.Commit live.transaction) (λ _. acts S calls scope rest x) st (λ n. gives x (hear n st)))
+  commit rest gives x st = asks (λ live. Want.Commit live.transaction) rest gives x st
 
   rollback : (rest : List Action) → Gives rest → Gives (Action.RollbackStore ∷ rest)
   unfolding acts
-  rollback rest gives x st =
-      live_at_end (Apart older scope.outer) st.context.tx _ st (λ live. ask_at_end (Apart older scope.outer) (Want.Rollback live.transaction) (λ _. acts S calls scope rest x) st (λ n. gives x (hear n st)))
+  rollback rest gives x st = asks (λ live. Want.Rollback live.transaction) rest gives x st
 
   give_back : (rest : List Action) → Gives rest → Gives (Action.GiveBack ∷ rest)
   unfolding acts
-  give_back rest gives x st =
-      live_at_end (Apart older scope.outer) st.context.tx _ st (λ live. ask_at_end (Apart older scope.outer) (Want.Give live.connection) (λ _. acts S calls scope rest x) st (λ n. gives x (hear n st)))
+  give_back rest gives x st = asks (λ live. Want.Give live.connection) rest gives x st
 
   unexpected : (rest : List Action) → Gives rest → Gives (Action.ThrowUnexpected ∷ rest)
   unfolding acts

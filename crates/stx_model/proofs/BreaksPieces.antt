@@ -282,11 +282,6 @@ module _ (S : Scenario) (calls : Calls) (k : ℕ) (calls_sound : AreSound S k ca
 
   callback_statement_sound : (s : Stmt) → CallbackBelow S k s → IsSound S k (callback_statement S calls s)
   unfolding callback_statement
-  callback_statement_sound (Stmt.Read r) below j live le st fits = row_keeps (At S j live) st.context.tx (Stmt.Read r) tt st fits
-  callback_statement_sound (Stmt.Write r v) below j live le st fits = row_keeps (At S j live) st.context.tx (Stmt.Write r v) tt st fits
-  callback_statement_sound (Stmt.Erase r) below j live le st fits = row_keeps (At S j live) st.context.tx (Stmt.Erase r) tt st fits
-  callback_statement_sound (Stmt.Add r n) below j live le st fits = row_keeps (At S j live) st.context.tx (Stmt.Add r n) tt st fits
-  callback_statement_sound (Stmt.Need r n) below j live le st fits = row_keeps (At S j live) st.context.tx (Stmt.Need r n) tt st fits
   callback_statement_sound (Stmt.Throw x) below j live le st fits = fits
   callback_statement_sound (Stmt.Call m catch) below j live le st fits =
       finally_ends (At S j live) (At S j live) (calls Proxied m st) (caught S catch) (calls_sound Proxied m below j live le st fits)
@@ -295,6 +290,7 @@ module _ (S : Scenario) (calls : Calls) (k : ℕ) (calls_sound : AreSound S k ca
   callback_statement_sound Stmt.Mark below j live le st fits = absurd below
   callback_statement_sound (Stmt.Register s) below j live le st fits = absurd below
   callback_statement_sound (Stmt.Publish e) below j live le st fits = absurd below
+  callback_statement_sound s below j live le st fits = row_keeps (At S j live) st.context.tx s tt st fits
 
   callback_sound : (body : List Stmt) → CallbacksBelow S k body → IsSound S k (callback S calls body)
   unfolding callback
@@ -521,13 +517,7 @@ module _ (S : Scenario) (calls : Calls) (k : ℕ) (calls_sound : AreSound S k ca
   statement_sound (Stmt.This m catch) below j live le st fits =
       finally_ends (At S j live) (At S j live) (calls Direct m st) (caught S catch) (calls_sound Direct m below j live le st fits)
       (caught_keep (At S j live) S catch)
-  statement_sound (Stmt.Call m catch) below j live le st fits = callback_statement_sound (Stmt.Call m catch) below j live le st fits
-  statement_sound (Stmt.Read r) below j live le st fits = callback_statement_sound (Stmt.Read r) tt j live le st fits
-  statement_sound (Stmt.Write r v) below j live le st fits = callback_statement_sound (Stmt.Write r v) tt j live le st fits
-  statement_sound (Stmt.Erase r) below j live le st fits = callback_statement_sound (Stmt.Erase r) tt j live le st fits
-  statement_sound (Stmt.Add r n) below j live le st fits = callback_statement_sound (Stmt.Add r n) tt j live le st fits
-  statement_sound (Stmt.Need r n) below j live le st fits = callback_statement_sound (Stmt.Need r n) tt j live le st fits
-  statement_sound (Stmt.Throw x) below j live le st fits = callback_statement_sound (Stmt.Throw x) tt j live le st fits
+  statement_sound s below j live le st fits = callback_statement_sound s below j live le st fits
 
   body_sound : (statements : List Stmt) → StatementsBelow S k statements → IsSound S k (body S calls statements)
   unfolding body

@@ -1,6 +1,6 @@
 -- A valid scenario is callable: ranks fall along what methods lead to, and callbacks hold only what they may.
 use Rattle.std.proofs.Common.{◌≡◌, ◌+◌, ◌<◌, ◌&&◌, ◌==◌, ◌++◌, ◌∷◌, [], Bool, true, false, cond, List, Option, Some, None, length, map, refl, sym, ◌∙◌, subst, arith, filter}
-use Rattle.std.specs.Prelude.{⊤, ℕ, zero, suc, slice_get, unwrap_or}
+use Rattle.std.specs.Prelude.{◌||◌, ⊤, ℕ, zero, suc, slice_get, unwrap_or}
 use Rattle.std.specs.List.{All, AllByRecursion, enumerate_from, flat_map}
 use Rattle.std.proofs.lemmas.Bool.{false≢true, or_left, or_right}
 use Rattle.std.proofs.lemmas.Grind.{flat_map-append}
@@ -44,19 +44,19 @@ record SyncMay (sync : SyncDecl) : Type 0 where
   pub after_commit : MayCallbacks sync.after_commit
   pub after_completion : MayCallbacks sync.after_completion
 
+-- what some callback may hold is no statement of bodies alone
+may_callback : (S : Scenario) (s : Stmt) → (allowed_before_commit S s || allowed_around S s) ≡ true → MayCallback s
+may_callback S (Stmt.This m catch) is = absurd (false≢true is)
+may_callback S Stmt.Mark is = absurd (false≢true is)
+may_callback S (Stmt.Register s) is = absurd (false≢true is)
+may_callback S (Stmt.Publish e) is = absurd (false≢true is)
+may_callback S s is = tt
+
 may_before_commit : (S : Scenario) (s : Stmt) → allowed_before_commit S s ≡ true → MayCallback s
-may_before_commit S (Stmt.This m catch) is = absurd (false≢true is)
-may_before_commit S Stmt.Mark is = absurd (false≢true is)
-may_before_commit S (Stmt.Register s) is = absurd (false≢true is)
-may_before_commit S (Stmt.Publish e) is = absurd (false≢true is)
-may_before_commit S s is = tt
+may_before_commit S s is = may_callback S s (or_left (allowed_before_commit S s) (allowed_around S s) is)
 
 may_around : (S : Scenario) (s : Stmt) → allowed_around S s ≡ true → MayCallback s
-may_around S (Stmt.This m catch) is = absurd (false≢true is)
-may_around S Stmt.Mark is = absurd (false≢true is)
-may_around S (Stmt.Register s) is = absurd (false≢true is)
-may_around S (Stmt.Publish e) is = absurd (false≢true is)
-may_around S s is = tt
+may_around S s is = may_callback S s (or_right (allowed_before_commit S s) (allowed_around S s) is)
 
 may_all : (allowed : Stmt → Bool) (body : List Stmt) → ((s : Stmt) → allowed s ≡ true → MayCallback s)
     → All (λ s. allowed s ≡ true) body → MayCallbacks body

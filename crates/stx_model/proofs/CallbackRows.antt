@@ -1,13 +1,16 @@
 -- Worked rows: synchronisations, their rounds, and what is thrown out of their callbacks.
-use Rattle.std.proofs.Common.{pos, negsuc, [], ◌∷◌, Some, None, refl}
+use Rattle.std.proofs.Common.{pos, negsuc, List, [], ◌∷◌, Some, None, refl}
+use Rattle.std.specs.Prelude.{◌++◌}
 use Rattle.stx_scenario.specs.declared.classes.TheConstants.{EXCEPTION, ERROR, RUNTIME_EXCEPTION, UNEXPECTED_ROLLBACK_EXCEPTION, CANNOT_ACQUIRE_LOCK_EXCEPTION}
 use Rattle.stx_scenario.specs.declared.scenario.Scenario.{Scenario}
 use Rattle.stx_scenario.specs.declared.scenario.Propagation.{Propagation}
 use Rattle.stx_scenario.specs.declared.scenario.Stmt.{Stmt}
 use Rattle.stx_base.specs.declared.history.Answer.{Answer}
 use Rattle.stx_base.specs.declared.line.Label.{Label}
-use Rattle.stx_model.proofs.Small.{m, n, a, sync_no, s, t, required, supports, requires_new, last_of_all, method, sync, plainly, Says}
-use Rattle.stx_model.proofs.Traces.{top, call, leave, leave_throws, throw, catch, swallow, rules_rollback_by, rules_keep_by, open_fresh_sync, open_join, open_empty_sync, end_commit, end_rollback, end_unexpected, mark_global, take, give, unbind, bind, suspend, resume, begin, write, commit, rollback, register, before_commit, before_completion, after_commit, after_completion_committed, after_completion_rolled_back}
+use Rattle.stx_base.specs.declared.line.Line.{Line}
+use Rattle.stx_model.proofs.Small.{m, n, a, sync_no, s, t, required, supports, requires_new, last_of_all, method, failing, sync, plainly, registering, Says}
+use Rattle.stx_model.proofs.Traces.{top, call, leave, leave_throws, throw, catch, swallow, rules_rollback_by, rules_keep_by, open_fresh_sync, open_join, open_empty_sync, end_commit, end_rollback, end_unexpected, take, give, unbind, bind, suspend, resume, begin, write, commit, rollback, register, before_commit, before_completion, after_commit, after_completion_committed, after_completion_rolled_back}
+use Rattle.stx_model.proofs.Passages.{m_begins, m_is_refused_with, n_joins_and_marks, n_begins_apart}
 
 -- ---- order
 
@@ -18,7 +21,7 @@ by_order_value = record (plainly (method required (Stmt.Register (sync_no 0) ∷
 }
 
 pub lower_order_values_come_first_and_ties_as_registered : Says by_order_value 0 (
-    top 0 ∷ call m Propagation.Required ∷ take 1 ∷ begin 1 ∷ open_fresh_sync ∷ register s ∷ register t ∷ register s
+    m_begins ++ register s ∷ register t ∷ register s
     ∷ end_commit
     ∷ before_commit t ∷ before_commit s ∷ before_commit s
     ∷ before_completion t ∷ before_completion s ∷ before_completion s
@@ -34,7 +37,7 @@ pub negative_order_values_come_before_all_others : Says (record by_order_value {
   methods = method required (Stmt.Register (sync_no 0) ∷ Stmt.Register (sync_no 1) ∷ Stmt.Register (sync_no 2) ∷ []) ∷ [];
   syncs = sync (pos 0) ∷ sync (negsuc 0) ∷ sync (negsuc 4) ∷ [];
 }) 0 (
-    top 0 ∷ call m Propagation.Required ∷ take 1 ∷ begin 1 ∷ open_fresh_sync ∷ register s ∷ register t ∷ register (Label.Sync (sync_no 2))
+    m_begins ++ register s ∷ register t ∷ register (Label.Sync (sync_no 2))
     ∷ end_commit ∷ before_commit (Label.Sync (sync_no 2)) ∷ before_commit t ∷ before_commit s
     ∷ before_completion (Label.Sync (sync_no 2)) ∷ before_completion t ∷ before_completion s
     ∷ commit 1 1 ∷ after_commit (Label.Sync (sync_no 2)) ∷ after_commit t ∷ after_commit s
@@ -51,7 +54,7 @@ registered_by_two = record (plainly (
     ∷ [])) { syncs = sync last_of_all ∷ sync last_of_all ∷ [] }
 
 pub the_fresh_scope_alone_calls_back : Says registered_by_two 0 (
-    top 0 ∷ call m Propagation.Required ∷ take 1 ∷ begin 1 ∷ open_fresh_sync ∷ register s
+    m_begins ++ register s
     ∷ call n Propagation.Required ∷ open_join ∷ register t ∷ end_commit ∷ leave n
     ∷ end_commit ∷ before_commit s ∷ before_commit t ∷ before_completion s ∷ before_completion t ∷ commit 1 1
     ∷ after_commit s ∷ after_commit t ∷ after_completion_committed s ∷ after_completion_committed t ∷ give 1 ∷ leave m ∷ [])
@@ -62,25 +65,21 @@ the_fresh_scope_alone_calls_back = refl
 
 -- the first of two callbacks throws
 abbrev refused_commit : Scenario
-refused_commit = record (plainly (method required (Stmt.Register (sync_no 0) ∷ []) ∷ [])) {
-  syncs = record (sync last_of_all) { before_commit = Stmt.Throw RUNTIME_EXCEPTION ∷ [] } ∷ [];
-}
+refused_commit = registering (record (sync last_of_all) { before_commit = Stmt.Throw RUNTIME_EXCEPTION ∷ [] })
 
 pub a_throw_before_commit_rolls_back : Says refused_commit 0 (
-    top 0 ∷ call m Propagation.Required ∷ take 1 ∷ begin 1 ∷ open_fresh_sync ∷ register s
+    m_begins ++ register s
     ∷ end_commit ∷ before_commit s ∷ throw RUNTIME_EXCEPTION
-    ∷ before_completion s ∷ rollback 1 ∷ after_completion_rolled_back s ∷ give 1 ∷ leave_throws m RUNTIME_EXCEPTION ∷ [])
+    ∷ m_is_refused_with s RUNTIME_EXCEPTION)
 unfolding Says
 a_throw_before_commit_rolls_back = refl
 
 -- two registrations of it; the body throws what the rules keep
-abbrev refused_commit_of_two : Scenario
-refused_commit_of_two = record refused_commit {
-  methods = method required (Stmt.Register (sync_no 0) ∷ Stmt.Register (sync_no 0) ∷ Stmt.Throw EXCEPTION ∷ []) ∷ [];
-}
-
-pub a_throw_before_commit_ends_the_round_and_is_what_leaves : Says refused_commit_of_two 0 (
-    top 0 ∷ call m Propagation.Required ∷ take 1 ∷ begin 1 ∷ open_fresh_sync ∷ register s ∷ register s ∷ throw EXCEPTION ∷ rules_keep_by None
+pub a_throw_before_commit_ends_the_round_and_is_what_leaves :
+    Says (record refused_commit {
+      methods = method required (Stmt.Register (sync_no 0) ∷ Stmt.Register (sync_no 0) ∷ Stmt.Throw EXCEPTION ∷ []) ∷ [];
+    }) 0 (
+    m_begins ++ register s ∷ register s ∷ throw EXCEPTION ∷ rules_keep_by None
     ∷ end_commit ∷ before_commit s ∷ throw RUNTIME_EXCEPTION
     ∷ before_completion s ∷ before_completion s ∷ rollback 1
     ∷ after_completion_rolled_back s ∷ after_completion_rolled_back s ∷ give 1 ∷ leave_throws m RUNTIME_EXCEPTION ∷ [])
@@ -90,9 +89,9 @@ a_throw_before_commit_ends_the_round_and_is_what_leaves = refl
 -- whatever it throws: the rules of the method aren't asked
 pub a_checked_throw_before_commit_rolls_back_too :
     Says (record refused_commit { syncs = record (sync last_of_all) { before_commit = Stmt.Throw EXCEPTION ∷ [] } ∷ [] }) 0 (
-    top 0 ∷ call m Propagation.Required ∷ take 1 ∷ begin 1 ∷ open_fresh_sync ∷ register s
+    m_begins ++ register s
     ∷ end_commit ∷ before_commit s ∷ throw EXCEPTION
-    ∷ before_completion s ∷ rollback 1 ∷ after_completion_rolled_back s ∷ give 1 ∷ leave_throws m EXCEPTION ∷ [])
+    ∷ m_is_refused_with s EXCEPTION)
 unfolding Says
 a_checked_throw_before_commit_rolls_back_too = refl
 
@@ -106,12 +105,10 @@ a_throw_before_commit_in_an_empty_scope = refl
 
 -- a callback writes, and is refused a row
 abbrev written_before_commit : Scenario
-written_before_commit = record (plainly (method required (Stmt.Register (sync_no 0) ∷ []) ∷ [])) {
-  syncs = record (sync last_of_all) { before_commit = Stmt.Write a (pos 1) ∷ [] } ∷ [];
-}
+written_before_commit = registering (record (sync last_of_all) { before_commit = Stmt.Write a (pos 1) ∷ [] })
 
 pub a_callback_before_commit_writes_in_the_transaction : Says written_before_commit 0 (
-    top 0 ∷ call m Propagation.Required ∷ take 1 ∷ begin 1 ∷ open_fresh_sync ∷ register s
+    m_begins ++ register s
     ∷ end_commit ∷ before_commit s ∷ write 1 a (pos 1) Answer.Done
     ∷ before_completion s ∷ commit 1 1 ∷ after_commit s ∷ after_completion_committed s ∷ give 1 ∷ leave m ∷ [])
 unfolding Says
@@ -127,14 +124,15 @@ a_busy_row_before_commit_rolls_back = refl
 -- ---- after_commit
 
 abbrev failed_after_commit : Scenario
-failed_after_commit = record (plainly (method required (Stmt.Register (sync_no 0) ∷ []) ∷ [])) {
-  syncs = record (sync last_of_all) { after_commit = Stmt.Throw RUNTIME_EXCEPTION ∷ [] } ∷ [];
-}
+failed_after_commit = registering (record (sync last_of_all) { after_commit = Stmt.Throw RUNTIME_EXCEPTION ∷ [] })
+
+abbrev m_fails_after_commit : List Line
+m_fails_after_commit = end_commit ∷ before_commit s ∷ before_completion s ∷ commit 1 1
+    ∷ after_commit s ∷ throw RUNTIME_EXCEPTION ∷ after_completion_committed s ∷ give 1 ∷ leave_throws m RUNTIME_EXCEPTION ∷ []
 
 pub a_throw_after_commit_leaves_though_the_commit_stands : Says failed_after_commit 0 (
-    top 0 ∷ call m Propagation.Required ∷ take 1 ∷ begin 1 ∷ open_fresh_sync ∷ register s
-    ∷ end_commit ∷ before_commit s ∷ before_completion s ∷ commit 1 1
-    ∷ after_commit s ∷ throw RUNTIME_EXCEPTION ∷ after_completion_committed s ∷ give 1 ∷ leave_throws m RUNTIME_EXCEPTION ∷ [])
+    m_begins ++ register s
+    ∷ m_fails_after_commit)
 unfolding Says
 a_throw_after_commit_leaves_though_the_commit_stands = refl
 
@@ -147,12 +145,10 @@ failed_after_inner_commit = record failed_after_commit {
 }
 
 pub a_throw_after_commit_ends_the_round_alone : Says failed_after_inner_commit 0 (
-    top 0 ∷ call m Propagation.Required ∷ take 1 ∷ begin 1 ∷ open_fresh_sync
-    ∷ call n Propagation.RequiresNew ∷ unbind 1 ∷ take 2 ∷ begin 2 ∷ open_fresh_sync ∷ register s ∷ register s
+    m_begins ++ n_begins_apart ++ register s ∷ register s
     ∷ end_commit ∷ before_commit s ∷ before_commit s ∷ before_completion s ∷ before_completion s ∷ commit 2 1
     ∷ after_commit s ∷ throw RUNTIME_EXCEPTION ∷ after_completion_committed s ∷ after_completion_committed s ∷ give 2 ∷ bind 1
-    ∷ leave_throws n RUNTIME_EXCEPTION
-    ∷ catch RUNTIME_EXCEPTION
+    ∷ leave_throws n RUNTIME_EXCEPTION ∷ catch RUNTIME_EXCEPTION
     ∷ end_commit ∷ commit 1 2 ∷ give 1 ∷ leave m ∷ [])
 unfolding Says
 a_throw_after_commit_ends_the_round_alone = refl
@@ -160,9 +156,8 @@ a_throw_after_commit_ends_the_round_alone = refl
 -- the body throws what the rules keep, and so does a callback
 pub a_throw_after_commit_takes_the_place_of_a_kept_exception :
     Says (record failed_after_commit { methods = method required (Stmt.Register (sync_no 0) ∷ Stmt.Throw EXCEPTION ∷ []) ∷ [] }) 0 (
-    top 0 ∷ call m Propagation.Required ∷ take 1 ∷ begin 1 ∷ open_fresh_sync ∷ register s ∷ throw EXCEPTION ∷ rules_keep_by None
-    ∷ end_commit ∷ before_commit s ∷ before_completion s ∷ commit 1 1
-    ∷ after_commit s ∷ throw RUNTIME_EXCEPTION ∷ after_completion_committed s ∷ give 1 ∷ leave_throws m RUNTIME_EXCEPTION ∷ [])
+    m_begins ++ register s ∷ throw EXCEPTION ∷ rules_keep_by None
+    ∷ m_fails_after_commit)
 unfolding Says
 a_throw_after_commit_takes_the_place_of_a_kept_exception = refl
 
@@ -186,7 +181,7 @@ failed_in_completion = record (plainly (method required (Stmt.Register (sync_no 
 }
 
 pub what_completion_callbacks_throw_is_swallowed_one_by_one : Says failed_in_completion 0 (
-    top 0 ∷ call m Propagation.Required ∷ take 1 ∷ begin 1 ∷ open_fresh_sync ∷ register s ∷ register s
+    m_begins ++ register s ∷ register s
     ∷ end_commit ∷ before_commit s ∷ before_commit s
     ∷ before_completion s ∷ throw RUNTIME_EXCEPTION ∷ swallow RUNTIME_EXCEPTION
     ∷ before_completion s ∷ throw RUNTIME_EXCEPTION ∷ swallow RUNTIME_EXCEPTION
@@ -201,14 +196,12 @@ what_completion_callbacks_throw_is_swallowed_one_by_one = refl
 abbrev unexpected_with_a_registration : Scenario
 unexpected_with_a_registration = record (plainly (
     method required (Stmt.Register (sync_no 0) ∷ Stmt.Call n (Some RUNTIME_EXCEPTION) ∷ [])
-    ∷ method required (Stmt.Throw RUNTIME_EXCEPTION ∷ [])
+    ∷ failing
     ∷ [])) { syncs = sync last_of_all ∷ [] }
 
 pub the_unexpected_rollback_is_thrown_between_after_completion_and_the_give : Says unexpected_with_a_registration 0 (
-    top 0 ∷ call m Propagation.Required ∷ take 1 ∷ begin 1 ∷ open_fresh_sync ∷ register s
-    ∷ call n Propagation.Required ∷ open_join ∷ throw RUNTIME_EXCEPTION ∷ rules_rollback_by None
-    ∷ end_rollback ∷ mark_global ∷ leave_throws n RUNTIME_EXCEPTION
-    ∷ catch RUNTIME_EXCEPTION
+    m_begins ++ register s
+    ∷ n_joins_and_marks ++ catch RUNTIME_EXCEPTION
     ∷ end_unexpected ∷ before_completion s ∷ rollback 1 ∷ after_completion_rolled_back s
     ∷ throw UNEXPECTED_ROLLBACK_EXCEPTION ∷ give 1 ∷ leave_throws m UNEXPECTED_ROLLBACK_EXCEPTION ∷ [])
 unfolding Says
@@ -230,7 +223,7 @@ calls_in_each_round = record (plainly (
     }
 
 pub in_after_completion_alone_no_synchronisation_is_active : Says calls_in_each_round 0 (
-    top 0 ∷ call m Propagation.Required ∷ take 1 ∷ begin 1 ∷ open_fresh_sync ∷ register s
+    m_begins ++ register s
     ∷ end_commit ∷ before_commit s
     ∷ before_completion s
     ∷ call n Propagation.RequiresNew ∷ suspend s ∷ unbind 1 ∷ take 2 ∷ begin 2 ∷ open_fresh_sync
@@ -266,12 +259,11 @@ pub a_callback_catches_what_its_call_throws :
       methods = method required (Stmt.Register (sync_no 0) ∷ []) ∷ method requires_new (Stmt.Throw RUNTIME_EXCEPTION ∷ []) ∷ [];
       syncs = record (sync last_of_all) { after_commit = Stmt.Call n (Some RUNTIME_EXCEPTION) ∷ [] } ∷ [];
     }) 0 (
-    top 0 ∷ call m Propagation.Required ∷ take 1 ∷ begin 1 ∷ open_fresh_sync ∷ register s
+    m_begins ++ register s
     ∷ end_commit ∷ before_commit s ∷ before_completion s ∷ commit 1 1
     ∷ after_commit s
     ∷ call n Propagation.RequiresNew ∷ suspend s ∷ unbind 1 ∷ take 2 ∷ begin 2 ∷ open_fresh_sync ∷ throw RUNTIME_EXCEPTION ∷ rules_rollback_by None
-    ∷ end_rollback ∷ rollback 2 ∷ give 2 ∷ bind 1 ∷ resume s ∷ leave_throws n RUNTIME_EXCEPTION
-    ∷ catch RUNTIME_EXCEPTION
+    ∷ end_rollback ∷ rollback 2 ∷ give 2 ∷ bind 1 ∷ resume s ∷ leave_throws n RUNTIME_EXCEPTION ∷ catch RUNTIME_EXCEPTION
     ∷ after_completion_committed s ∷ give 1 ∷ leave m ∷ [])
 unfolding Says
 a_callback_catches_what_its_call_throws = refl

@@ -194,17 +194,13 @@ CallsKeep calls = (way : Way) (m : MethodNo) → Keeps (calls way m)
 module _ (S : Scenario) (calls : Calls) (called : CallsKeep calls) where
   pub callback_statement_keeps : (s : Stmt) → Keeps (callback_statement S calls s)
   unfolding callback_statement
-  callback_statement_keeps (Stmt.Read k) st = row_statement_keeps st.context.tx (Stmt.Read k) st
-  callback_statement_keeps (Stmt.Write k v) st = row_statement_keeps st.context.tx (Stmt.Write k v) st
-  callback_statement_keeps (Stmt.Erase k) st = row_statement_keeps st.context.tx (Stmt.Erase k) st
-  callback_statement_keeps (Stmt.Add k n) st = row_statement_keeps st.context.tx (Stmt.Add k n) st
-  callback_statement_keeps (Stmt.Need k n) st = row_statement_keeps st.context.tx (Stmt.Need k n) st
   callback_statement_keeps (Stmt.Throw x) st = throws_keeps x st
   callback_statement_keeps (Stmt.Call m catch) st = finally_keeps st.context (calls Proxied m st) (caught S catch) (called Proxied m st) (caught_keeps S catch)
   callback_statement_keeps (Stmt.This m catch) st = tt
   callback_statement_keeps Stmt.Mark st = tt
   callback_statement_keeps (Stmt.Publish e) st = tt
   callback_statement_keeps (Stmt.Register s) st = tt
+  callback_statement_keeps s st = row_statement_keeps st.context.tx s st
 
   callback_keeps : (body : List Stmt) → Keeps (callback S calls body)
   unfolding callback

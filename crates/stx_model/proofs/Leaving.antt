@@ -5,11 +5,6 @@ use Rattle.std.proofs.lemmas.Bool.{false≢true}
 use Rattle.stx_scenario.specs.declared.numbers.ClassNo.{ClassNo}
 use Rattle.stx_scenario.specs.declared.numbers.MethodNo.{MethodNo}
 use Rattle.stx_scenario.specs.declared.scenario.Scenario.{Scenario}
-use Rattle.stx_scenario.specs.declared.scenario.Propagation.{Propagation}
-use Rattle.stx_scenario.specs.declared.scenario.Settings.{Settings}
-use Rattle.stx_scenario.specs.declared.scenario.SyncMode.{SyncMode}
-use Rattle.stx_scenario.specs.declared.classes.TheConstants.{NESTED_TRANSACTION_NOT_SUPPORTED_EXCEPTION, CANNOT_CREATE_TRANSACTION_EXCEPTION}
-use Rattle.std.specs.Option.{is_some}
 use Rattle.stx_scenario.specs.declared.scenario.Stmt.{Stmt}
 use Rattle.stx_scenario.specs.declared.scenario.TxAttr.{TxAttr}
 use Rattle.stx_base.specs.declared.manager.Action.{Action}
@@ -26,13 +21,14 @@ use Rattle.stx_model.specs.Ending.{completion, completion_after, has_before_comm
 use Rattle.stx_model.specs.Listeners.{Deed, Register, RunNow, Skip, deeds}
 use Rattle.stx_base.specs.declared.history.Note.{Note}
 use Rattle.stx_model.specs.Meanings.{State, Result, Over, Stops, Breaks, Meaning, finally, say, with_context, with_local, hear, ask}
-use Rattle.stx_model.specs.Opening.{opening, opening_within, opening_without, owns_empty}
+use Rattle.stx_model.specs.Opening.{opening}
 use Rattle.stx_model.specs.Statements.{caught, register_listener}
 use Rattle.stx_model.specs.Rounds.{Calls, Proxied, Direct, listens, swallowing_round, stopping_round, round_of}
 use Rattle.stx_model.specs.Scopes.{Scope, leaves, later_or, rolls, ruled, is_set, started_syncs, acts, completes, ends, in_scope, suspended, live_in, within, opens, intercepted}
 use Rattle.stx_model.specs.Script.{deals, statement, body, unscoped, proxied, invoked, calls_below}
 use Rattle.stx_model.specs.Assurances.{AtEnd, IsSameTransaction, MayBeMarked, IsKept, IsOnlyExtended, LeavesContext, CallsLeaveTheContext}
 use Rattle.stx_model.proofs.Apart.{Apart, either_at_end, suspended_local, finally_at_end, ask_at_end, live_at_end, hear_keeps, fresh_stands_apart, completes_empty}
+use Rattle.stx_model.proofs.Openings.{opening_tells}
 use Rattle.stx_model.proofs.Keeping.{kept_refl, HasKept, Keeps, finally_keeps, and_then_keeps, either_keeps, CallsKeep, callback_statement_keeps, listens_keeps, caught_keeps, marks_keeps, registers_keeps, round_of_keeps, swallowing_round_keeps, stopping_round_keeps}
 
 -- ---- a piece after a piece
@@ -286,86 +282,6 @@ module _ (S : Scenario) (calls : Calls) (m : MethodNo) (outer : Option Bool) (ow
       only_context (Stops w st) apart = tt
       only_context (Breaks st) apart = tt
 
--- ---- what each opening tells of its context
-
--- no transaction is live, and where it owns no synchronisation is active
-pub empty_is_bare : (settings : Settings) (a : TxAttr) (context : Context) (owns : Bool) → opening settings a context ≡ Opening.Empty false owns
-    → (context.tx ≡ None) × (owns ≡ true → context.syncs ≡ None)
-unfolding opening
-empty_is_bare settings a context owns is = by context.tx refl a.propagation is
-  where
-    active_or_none : (syncs : Option (List Registration)) (mode : SyncMode) → owns_empty mode (is_some syncs) ≡ true → syncs ≡ None
-    active_or_none None mode e = refl
-    active_or_none (Some list) SyncMode.Always e = cc
-    active_or_none (Some list) SyncMode.Actual e = cc
-    active_or_none (Some list) SyncMode.Never e = cc
-
-    owner : Opening → Bool
-    owner (Opening.Empty s o) = o
-    owner _ = false
-
-    empties : Opening.Empty false (owns_empty settings.mode (is_active context)) ≡ Opening.Empty false owns → owns ≡ true → context.syncs ≡ None
-    empties e own = active_or_none context.syncs settings.mode (ap owner e ∙ own)
-
-    by : (tx : Option Live) → context.tx ≡ tx → (p : Propagation) → elim tx [ Some live ↦ opening_within settings live p | None ↦ opening_without settings context p ] ≡ Opening.Empty false owns
-        → (context.tx ≡ None) × (owns ≡ true → context.syncs ≡ None)
-    by None none Propagation.Required e = cc
-    by None none Propagation.Supports e = (none, empties e)
-    by None none Propagation.Mandatory e = cc
-    by None none Propagation.RequiresNew e = cc
-    by None none Propagation.NotSupported e = (none, empties e)
-    by None none Propagation.Never e = (none, empties e)
-    by None none Propagation.Nested e = cc
-    by (Some live) some Propagation.Required e = cc
-    by (Some live) some Propagation.Supports e = cc
-    by (Some live) some Propagation.Mandatory e = cc
-    by (Some live) some Propagation.RequiresNew e = cc
-    by (Some live) some Propagation.NotSupported e = cc
-    by (Some live) some Propagation.Never e = cc
-    by (Some live) some Propagation.Nested e = pointless settings.nested live.mark e
-      where
-        pointless : (nested mark : Bool) → elim nested [
-          | false ↦ Opening.Refuse NESTED_TRANSACTION_NOT_SUPPORTED_EXCEPTION
-          | true ↦ elim mark [ true ↦ Opening.Refuse CANNOT_CREATE_TRANSACTION_EXCEPTION | false ↦ Opening.Point ]
-        ] ≡ Opening.Empty false owns
-            → (context.tx ≡ None) × (owns ≡ true → context.syncs ≡ None)
-        pointless false mark e = cc
-        pointless true true e = cc
-        pointless true false e = cc
-
--- a transaction is live and not marked
-point_is_unmarked : (settings : Settings) (a : TxAttr) (context : Context) → opening settings a context ≡ Opening.Point
-    → (live : Live) × (context.tx ≡ Some live) × (live.mark ≡ false)
-unfolding opening
-point_is_unmarked settings a context is = by context.tx refl a.propagation is
-  where
-    unmarked : (live : Live) (nested mark : Bool) → live.mark ≡ mark → context.tx ≡ Some live
-        → elim nested [
-          | false ↦ Opening.Refuse NESTED_TRANSACTION_NOT_SUPPORTED_EXCEPTION
-          | true ↦ elim mark [ true ↦ Opening.Refuse CANNOT_CREATE_TRANSACTION_EXCEPTION | false ↦ Opening.Point ]
-        ] ≡ Opening.Point
-        → (live : Live) × (context.tx ≡ Some live) × (live.mark ≡ false)
-    unmarked live false mark of some e = cc
-    unmarked live true true of some e = cc
-    unmarked live true false of some e = (live, some, of)
-
-    by : (tx : Option Live) → context.tx ≡ tx → (p : Propagation) → elim tx [ Some live ↦ opening_within settings live p | None ↦ opening_without settings context p ] ≡ Opening.Point
-        → (live : Live) × (context.tx ≡ Some live) × (live.mark ≡ false)
-    by None none Propagation.Required e = cc
-    by None none Propagation.Supports e = cc
-    by None none Propagation.Mandatory e = cc
-    by None none Propagation.RequiresNew e = cc
-    by None none Propagation.NotSupported e = cc
-    by None none Propagation.Never e = cc
-    by None none Propagation.Nested e = cc
-    by (Some live) some Propagation.Required e = cc
-    by (Some live) some Propagation.Supports e = cc
-    by (Some live) some Propagation.Mandatory e = cc
-    by (Some live) some Propagation.RequiresNew e = cc
-    by (Some live) some Propagation.NotSupported e = cc
-    by (Some live) some Propagation.Never e = cc
-    by (Some live) some Propagation.Nested e = unmarked live settings.nested live.mark refl some e
-
 -- ---- intercepted calls
 
 kept_by : (o : Opening) (before after : Context) → LeavesContext o before after → IsKept before after
@@ -396,7 +312,7 @@ module _ (S : Scenario) (calls : Calls) (called : CallsKeep calls) (m : MethodNo
       (fresh_stands_apart S calls m a run suspends owns st)
   opens_leaves Opening.Join st is = joins S calls m a run keeps st
   opens_leaves Opening.Point st is =
-      let point = point_is_unmarked S.settings a st.context is in
+      let point = opening_tells S.settings a st.context Opening.Point is in
       live_at_end (Leaves Opening.Point st.context) st.context.tx (λ live. ask (Want.Point live.transaction) (λ _. within S calls m Kind.Point a run)) st
       (λ live. ask_at_end (Leaves Opening.Point st.context) (Want.Point live.transaction) (λ _. within S calls m Kind.Point a run) st
       (λ n. points S calls st.context point.0 point.1 point.2 m a run (hear n st) keeps (hear_keeps n st).0))
@@ -406,7 +322,7 @@ module _ (S : Scenario) (calls : Calls) (called : CallsKeep calls) (m : MethodNo
       apart_either true = apart_empty S calls m _ true st.context a run _
       apart_either false = apart_empty S calls m _ false st.context a run _
   opens_leaves (Opening.Empty false true) st is =
-      let empty = empty_is_bare S.settings a st.context true is in
+      let empty = opening_tells S.settings a st.context (Opening.Empty false true) is in
       weaker (λ x after. after.context ≡ bare) (Leaves (Opening.Empty false true) st.context) (opens S calls m a run (Opening.Empty false true) st)
       (λ x after left. left ∙ sym (is_bare_there st.context empty.0 (empty.1 refl)))
       (owning_empty S calls called m st.local a run keeps (with_context (record { tx = st.context.tx; syncs = started_syncs true st.context.syncs }) st) empty.0)
@@ -414,7 +330,7 @@ module _ (S : Scenario) (calls : Calls) (called : CallsKeep calls) (m : MethodNo
       is_bare_there : (context : Context) → context.tx ≡ None → context.syncs ≡ None → context ≡ bare
       is_bare_there context none inactive = ap (λ t. record { tx = t; syncs = context.syncs }) none ∙ ap (λ s. record { tx = None; syncs = s }) inactive
   opens_leaves (Opening.Empty false false) st is =
-      let empty = empty_is_bare S.settings a st.context false is in
+      let empty = opening_tells S.settings a st.context (Opening.Empty false false) is in
       weaker (λ x after. IsKept st.context after.context) (Leaves (Opening.Empty false false) st.context) (opens S calls m a run (Opening.Empty false false) st)
       (λ x after kept. record { tx = subst (λ o. MayBeMarked o after.context.tx) empty.0 kept.tx ∙ sym empty.0; syncs = kept.syncs })
       (plain_empty S calls called m st.local a run keeps (with_context (record { tx = st.context.tx; syncs = started_syncs false st.context.syncs }) st))
@@ -441,13 +357,7 @@ module _ (S : Scenario) (calls : Calls) (called : CallsKeep calls) where
   statement_keeps (Stmt.Register s) st = registers_keeps _ st.context.syncs st refl
   statement_keeps (Stmt.Publish e) st = deals_keeps (deeds S e (is_active st.context) (is_live st.context)) (say (Line.Publish e) st)
   statement_keeps (Stmt.This m catch) st = finally_keeps st.context (calls Direct m st) (caught S catch) (called Direct m st) (caught_keeps S catch)
-  statement_keeps (Stmt.Read k) st = callback_statement_keeps S calls called (Stmt.Read k) st
-  statement_keeps (Stmt.Write k v) st = callback_statement_keeps S calls called (Stmt.Write k v) st
-  statement_keeps (Stmt.Erase k) st = callback_statement_keeps S calls called (Stmt.Erase k) st
-  statement_keeps (Stmt.Add k n) st = callback_statement_keeps S calls called (Stmt.Add k n) st
-  statement_keeps (Stmt.Need k n) st = callback_statement_keeps S calls called (Stmt.Need k n) st
-  statement_keeps (Stmt.Call m catch) st = callback_statement_keeps S calls called (Stmt.Call m catch) st
-  statement_keeps (Stmt.Throw x) st = callback_statement_keeps S calls called (Stmt.Throw x) st
+  statement_keeps s st = callback_statement_keeps S calls called s st
 
   pub body_keeps : (statements : List Stmt) → Keeps (body S calls statements)
   unfolding body

@@ -6,6 +6,7 @@ pub mod SerialJournal
 pub mod SerialLaw
 pub mod Small
 pub mod Traces
+pub mod Passages
 pub mod Tables
 pub mod JoinRows
 pub mod PointRows
@@ -18,6 +19,7 @@ pub mod ShopRow
 pub mod NoteRows
 pub mod ValidRow
 pub mod ReadsRows
+pub mod Legality
 pub mod ReportRows
 pub mod SerialRows
 pub mod SerialCounterexample
@@ -26,6 +28,7 @@ pub mod FreshLaw
 pub mod Apart
 pub mod TooLate
 pub mod Keeping
+pub mod Openings
 pub mod Leaving
 pub mod EntriesLaw
 pub mod PlayedLaw

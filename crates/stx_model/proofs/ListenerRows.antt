@@ -1,5 +1,6 @@
 -- Worked rows: transactional event listeners.
 use Rattle.std.proofs.Common.{pos, true, false, List, [], ◌∷◌, None, refl}
+use Rattle.std.specs.Prelude.{◌++◌}
 use Rattle.stx_scenario.specs.declared.classes.TheConstants.{EXCEPTION, RUNTIME_EXCEPTION}
 use Rattle.stx_scenario.specs.declared.scenario.Scenario.{Scenario}
 use Rattle.stx_scenario.specs.declared.scenario.Propagation.{Propagation}
@@ -8,8 +9,9 @@ use Rattle.stx_scenario.specs.declared.scenario.Phase.{Phase}
 use Rattle.stx_scenario.specs.declared.scenario.Stmt.{Stmt}
 use Rattle.stx_base.specs.declared.history.Answer.{Answer}
 use Rattle.stx_base.specs.declared.line.Label.{Label}
-use Rattle.stx_model.proofs.Small.{m, n, a, sync_no, e, listener_no, s, l, o, required, requires_new, not_supported, settings, last_of_all, method, sync, listener, plainly, Says}
-use Rattle.stx_model.proofs.Traces.{top, call, call_plain, leave, leave_throws, throw, swallow, rules_rollback_by, open_fresh_sync, open_fresh, open_empty_sync, end_commit, end_rollback, mark, take, give, unbind, bind, begin, write, auto_write, commit, rollback, register, publish, listen, skip, before_commit, before_completion, after_commit, after_completion_committed, after_completion_rolled_back}
+use Rattle.stx_model.proofs.Small.{m, n, a, sync_no, e, listener_no, s, l, o, required, requires_new, not_supported, settings, last_of_all, method, sync, listener, plainly, calling, Says}
+use Rattle.stx_model.proofs.Traces.{top, call, call_plain, leave, leave_throws, throw, swallow, rules_rollback_by, open_fresh, open_empty_sync, end_commit, end_rollback, mark, take, give, unbind, bind, begin, write, auto_write, commit, rollback, register, publish, listen, skip, before_commit, before_completion, after_commit, after_completion_committed, after_completion_rolled_back}
+use Rattle.stx_model.proofs.Passages.{m_begins, m_commits, m_is_refused_with, n_begins_apart, throws_out}
 
 -- ---- registered listeners
 
@@ -21,11 +23,10 @@ failing_listener = record (plainly (
     ∷ [])) { settings = settings 2 SyncMode.Always true; listeners = listener Phase.AfterCommit false (Stmt.Call n None ∷ []) ∷ [] }
 
 pub an_after_commit_listener_runs_after_completion_and_what_it_throws_is_swallowed : Says failing_listener 0 (
-    top 0 ∷ call m Propagation.Required ∷ take 1 ∷ begin 1 ∷ open_fresh_sync
-    ∷ publish e ∷ register l
+    m_begins ++ publish e ∷ register l
     ∷ end_commit ∷ before_commit l ∷ before_completion l ∷ commit 1 1 ∷ after_commit l ∷ after_completion_committed l
     ∷ listen (listener_no 0)
-    ∷ call n Propagation.RequiresNew ∷ unbind 1 ∷ take 2 ∷ begin 2 ∷ open_fresh_sync ∷ throw RUNTIME_EXCEPTION ∷ rules_rollback_by None
+    ∷ n_begins_apart ++ throw RUNTIME_EXCEPTION ∷ rules_rollback_by None
     ∷ end_rollback ∷ rollback 2 ∷ give 2 ∷ bind 1 ∷ leave_throws n RUNTIME_EXCEPTION
     ∷ swallow RUNTIME_EXCEPTION
     ∷ give 1 ∷ leave m ∷ [])
@@ -38,22 +39,19 @@ rolled_back_with_a_listener phase = record (plainly (method required (Stmt.Publi
 }
 
 pub an_after_rollback_listener_runs_where_the_transaction_rolled_back : Says (rolled_back_with_a_listener Phase.AfterRollback) 0 (
-    top 0 ∷ call m Propagation.Required ∷ take 1 ∷ begin 1 ∷ open_fresh_sync
-    ∷ publish e ∷ register l ∷ mark
+    m_begins ++ publish e ∷ register l ∷ mark
     ∷ end_rollback ∷ before_completion l ∷ rollback 1 ∷ after_completion_rolled_back l ∷ listen (listener_no 0) ∷ give 1 ∷ leave m ∷ [])
 unfolding Says
 an_after_rollback_listener_runs_where_the_transaction_rolled_back = refl
 
 pub an_after_completion_listener_runs_there_too : Says (rolled_back_with_a_listener Phase.AfterCompletion) 0 (
-    top 0 ∷ call m Propagation.Required ∷ take 1 ∷ begin 1 ∷ open_fresh_sync
-    ∷ publish e ∷ register l ∷ mark
+    m_begins ++ publish e ∷ register l ∷ mark
     ∷ end_rollback ∷ before_completion l ∷ rollback 1 ∷ after_completion_rolled_back l ∷ listen (listener_no 0) ∷ give 1 ∷ leave m ∷ [])
 unfolding Says
 an_after_completion_listener_runs_there_too = refl
 
 pub an_after_commit_listener_does_not_run_there : Says (rolled_back_with_a_listener Phase.AfterCommit) 0 (
-    top 0 ∷ call m Propagation.Required ∷ take 1 ∷ begin 1 ∷ open_fresh_sync
-    ∷ publish e ∷ register l ∷ mark
+    m_begins ++ publish e ∷ register l ∷ mark
     ∷ end_rollback ∷ before_completion l ∷ rollback 1 ∷ after_completion_rolled_back l ∷ give 1 ∷ leave m ∷ [])
 unfolding Says
 an_after_commit_listener_does_not_run_there = refl
@@ -68,8 +66,7 @@ each_phase = record (plainly (method required (Stmt.Publish e ∷ []) ∷ [])) {
 }
 
 pub each_listener_runs_in_the_round_of_its_phase : Says each_phase 0 (
-    top 0 ∷ call m Propagation.Required ∷ take 1 ∷ begin 1 ∷ open_fresh_sync
-    ∷ publish e ∷ register l ∷ register o ∷ register (Label.Listener (listener_no 2))
+    m_begins ++ publish e ∷ register l ∷ register o ∷ register (Label.Listener (listener_no 2))
     ∷ end_commit
     ∷ before_commit l ∷ listen (listener_no 0) ∷ write 1 a (pos 1) Answer.Done
     ∷ before_commit o ∷ before_commit (Label.Listener (listener_no 2))
@@ -85,10 +82,9 @@ each_listener_runs_in_the_round_of_its_phase = refl
 -- a before_commit listener throws
 pub a_throw_of_a_before_commit_listener_rolls_back :
     Says (record each_phase { listeners = listener Phase.BeforeCommit false (Stmt.Throw EXCEPTION ∷ []) ∷ [] }) 0 (
-    top 0 ∷ call m Propagation.Required ∷ take 1 ∷ begin 1 ∷ open_fresh_sync
-    ∷ publish e ∷ register l
+    m_begins ++ publish e ∷ register l
     ∷ end_commit ∷ before_commit l ∷ listen (listener_no 0) ∷ throw EXCEPTION
-    ∷ before_completion l ∷ rollback 1 ∷ after_completion_rolled_back l ∷ give 1 ∷ leave_throws m EXCEPTION ∷ [])
+    ∷ m_is_refused_with l EXCEPTION)
 unfolding Says
 a_throw_of_a_before_commit_listener_rolls_back = refl
 
@@ -96,17 +92,15 @@ a_throw_of_a_before_commit_listener_rolls_back = refl
 
 -- in an empty scope inside a suspended transaction
 abbrev published_apart : Scenario
-published_apart = record (plainly (
-    method required (Stmt.Call n None ∷ [])
-    ∷ method not_supported (Stmt.Publish e ∷ [])
-    ∷ [])) { listeners = listener Phase.AfterCommit true [] ∷ listener Phase.AfterCommit false [] ∷ [] }
+published_apart = record (calling None (method not_supported (Stmt.Publish e ∷ []))) {
+  listeners = listener Phase.AfterCommit true [] ∷ listener Phase.AfterCommit false [] ∷ [];
+}
 
 pub without_a_transaction_a_listener_with_fallback_runs_at_once_and_others_are_skipped : Says published_apart 0 (
-    top 0 ∷ call m Propagation.Required ∷ take 1 ∷ begin 1 ∷ open_fresh_sync
-    ∷ call n Propagation.NotSupported ∷ unbind 1 ∷ open_empty_sync
+    m_begins ++ call n Propagation.NotSupported ∷ unbind 1 ∷ open_empty_sync
     ∷ publish e ∷ listen (listener_no 0) ∷ skip (listener_no 1)
     ∷ end_commit ∷ bind 1 ∷ leave n
-    ∷ end_commit ∷ commit 1 1 ∷ give 1 ∷ leave m ∷ [])
+    ∷ m_commits)
 unfolding Says
 without_a_transaction_a_listener_with_fallback_runs_at_once_and_others_are_skipped = refl
 
@@ -122,15 +116,14 @@ pub in_the_mode_never_a_listener_with_fallback_runs_at_once_in_the_live_transact
     ∷ write 1 a (pos 1) Answer.Done
     ∷ publish e ∷ listen (listener_no 0) ∷ write 1 a (pos 2) Answer.Done ∷ skip (listener_no 1)
     ∷ write 1 a (pos 3) Answer.Done
-    ∷ end_commit ∷ commit 1 1 ∷ give 1 ∷ leave m ∷ [])
+    ∷ m_commits)
 unfolding Says
 in_the_mode_never_a_listener_with_fallback_runs_at_once_in_the_live_transaction = refl
 
 -- in a transaction, with synchronisation
 pub a_listener_with_fallback_that_is_registered_runs_in_its_phase_alone :
     Says (record published_in_the_mode_never { settings = settings 8 SyncMode.Always true }) 0 (
-    top 0 ∷ call m Propagation.Required ∷ take 1 ∷ begin 1 ∷ open_fresh_sync
-    ∷ write 1 a (pos 1) Answer.Done
+    m_begins ++ write 1 a (pos 1) Answer.Done
     ∷ publish e ∷ register l ∷ register o
     ∷ write 1 a (pos 3) Answer.Done
     ∷ end_commit ∷ before_commit l ∷ listen (listener_no 0) ∷ write 1 a (pos 2) Answer.Done ∷ before_commit o ∷ listen (listener_no 1)
@@ -155,7 +148,7 @@ thrown_at_once = record (plainly (method None (Stmt.Publish e ∷ Stmt.Write a (
 }
 
 pub what_a_listener_throws_at_once_leaves_the_publication : Says thrown_at_once 0 (
-    top 0 ∷ call_plain m ∷ publish e ∷ listen (listener_no 0) ∷ throw EXCEPTION ∷ leave_throws m EXCEPTION ∷ [])
+    top 0 ∷ call_plain m ∷ publish e ∷ listen (listener_no 0) ∷ throws_out EXCEPTION m)
 unfolding Says
 what_a_listener_throws_at_once_leaves_the_publication = refl
 
@@ -169,7 +162,7 @@ equal_order_values body = record (plainly (method required body ∷ [])) {
 }
 
 pub a_tie_of_a_synchronisation_and_a_listener_is_as_registered : Says (equal_order_values (Stmt.Register (sync_no 0) ∷ Stmt.Publish e ∷ [])) 0 (
-    top 0 ∷ call m Propagation.Required ∷ take 1 ∷ begin 1 ∷ open_fresh_sync ∷ register s
+    m_begins ++ register s
     ∷ publish e ∷ register o ∷ register l
     ∷ end_commit ∷ before_commit o ∷ before_commit s ∷ before_commit l ∷ before_completion o ∷ before_completion s ∷ before_completion l ∷ commit 1 1
     ∷ after_commit o ∷ after_commit s ∷ after_commit l
@@ -179,8 +172,7 @@ unfolding Says
 a_tie_of_a_synchronisation_and_a_listener_is_as_registered = refl
 
 pub and_so_is_the_tie_where_the_listener_comes_first : Says (equal_order_values (Stmt.Publish e ∷ Stmt.Register (sync_no 0) ∷ [])) 0 (
-    top 0 ∷ call m Propagation.Required ∷ take 1 ∷ begin 1 ∷ open_fresh_sync
-    ∷ publish e ∷ register o ∷ register l ∷ register s
+    m_begins ++ publish e ∷ register o ∷ register l ∷ register s
     ∷ end_commit ∷ before_commit o ∷ before_commit l ∷ before_commit s ∷ before_completion o ∷ before_completion l ∷ before_completion s ∷ commit 1 1
     ∷ after_commit o ∷ after_commit l ∷ after_commit s
     ∷ after_completion_committed o ∷ listen (listener_no 1) ∷ after_completion_committed l ∷ listen (listener_no 0) ∷ after_completion_committed s

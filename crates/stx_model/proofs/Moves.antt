@@ -37,6 +37,29 @@ Sound W = IsSound W.scenario W.store
 abbrev pub noted : StoreNote → Ledger → Ledger
 noted n L = record L { points = λ u. pointed u (L.points u) n }
 
+-- ---- the notes of savepoints
+
+-- the one note that answers a call on a savepoint
+abbrev point_note : Want → Option StoreNote
+point_note (Want.Point t) = Some (StoreNote.Point t)
+point_note (Want.BackTo t) = Some (StoreNote.BackTo t)
+point_note (Want.Release t) = Some (StoreNote.Release t)
+point_note _ = None
+
+only_note : (w : Want) (made n : StoreNote) → point_note w ≡ Some made → is_answer w (Note.Store n) ≡ true → made ≡ n
+only_note (Want.Point t) made (StoreNote.Point u) is_made is = let same = eqb-true u t is in cc
+only_note (Want.BackTo t) made (StoreNote.BackTo u) is_made is = let same = eqb-true u t is in cc
+only_note (Want.Release t) made (StoreNote.Release u) is_made is = let same = eqb-true u t is in cc
+only_note (Want.Point t) made n is_made is = absurd (false≢true is)
+only_note (Want.BackTo t) made n is_made is = absurd (false≢true is)
+only_note (Want.Release t) made n is_made is = absurd (false≢true is)
+only_note _ made n is_made is = cc
+
+-- where no savepoint is open, a return and a release leave none
+none_opened : (t u : ℕ) (b : Bool) → (t == u) ≡ b → (pointed u [] (StoreNote.BackTo t) ≡ []) × (pointed u [] (StoreNote.Release t) ≡ [])
+none_opened t u true e = (rw e refl, rw e refl)
+none_opened t u false e = (rw e refl, rw e refl)
+
 -- ---- what may be asked for
 
 abbrev pub alive_in : List ℕ → Option Bound → Type 0
@@ -281,54 +304,42 @@ module _ (W : World) where
         by_note (StoreNote.Auto b r) first is = then r _ (other (StoreNote.Auto b r) refl (λ v. refl) (λ v. refl) refl first (λ sound v none dead. refl))
         by_note n first is = absurd (false≢true is)
 
+    -- the calls on savepoints, each of which one note alone answers
+    at_point : (w : Want) (made : StoreNote) (next : Meaning) → point_note w ≡ Some made → Allows W L w
+        → (Sound W → (u : ℕ) → contains L.transactions u ≡ false → pointed u [] made ≡ [])
+        → ((after : State) → At (noted made L) after → Ends E (next after)) → Ends E (answered w (λ _. next) st (option_map Note.Store (slice_get st.store 0)))
+    at_point w made next is_made allowed kept then = asked Note.Store E w (λ _. next) st st.store (stops w allowed) by_note
+      where
+        moved : (w : Want) (made : StoreNote) → point_note w ≡ Some made → st.store ≡ made ∷ drop 1 st.store
+            → (Sound W → (u : ℕ) → contains L.transactions u ≡ false → pointed u [] made ≡ []) → At (noted made L) (hear (Note.Store made) st)
+        moved (Want.Point t) (StoreNote.Point u) is first kept = other (StoreNote.Point u) refl (λ u. refl) (λ u. refl) refl first (λ sound u none dead. kept sound u dead)
+        moved (Want.BackTo t) (StoreNote.BackTo u) is first kept = other (StoreNote.BackTo u) refl (λ u. refl) (λ u. refl) refl first (λ sound u none dead. kept sound u dead)
+        moved (Want.Release t) (StoreNote.Release u) is first kept = other (StoreNote.Release u) refl (λ u. refl) (λ u. refl) refl first (λ sound u none dead. kept sound u dead)
+        moved _ _ is first kept = cc
+
+        by_note : (n : StoreNote) → st.store ≡ n ∷ drop 1 st.store → is_answer w (Note.Store n) ≡ true → Ends E (next (hear (Note.Store n) st))
+        by_note n first is =
+            let same : made ≡ n = only_note w made n is_made is in
+            subst (λ m. Ends E (next (hear (Note.Store m) st))) same (then _ (moved w made is_made (subst (λ m. st.store ≡ m ∷ drop 1 st.store) (sym same) first) kept))
+
     pub ask_point : (t : ℕ) (next : Meaning) → (Sound W → contains L.transactions t ≡ true)
         → ((after : State) → At (noted (StoreNote.Point t) L) after → Ends E (next after)) → Ends E (ask (Want.Point t) (λ _. next) st)
     unfolding ask
-    ask_point t next lives then = asked Note.Store E (Want.Point t) (λ _. next) st st.store (stops (Want.Point t) lives) by_note
+    ask_point t next lives then = at_point (Want.Point t) (StoreNote.Point t) next refl lives (λ sound u dead. kept sound u dead (t == u) refl) then
       where
-        kept : (v : ℕ) → Sound W → (u : ℕ) → v ≡ t → contains L.transactions u ≡ false → pointed u [] (StoreNote.Point v) ≡ []
-        kept v sound u is dead = by (v == u) refl
-          where
-            by : (b : Bool) → (v == u) ≡ b → pointed u [] (StoreNote.Point v) ≡ []
-            by false e = rw e refl
-            by true e = absurd (false≢true (sym dead ∙ ap (contains L.transactions) (sym (eqb-true v u e) ∙ is) ∙ lives sound))
-
-        by_note : (n : StoreNote) → st.store ≡ n ∷ drop 1 st.store → is_answer (Want.Point t) (Note.Store n) ≡ true → Ends E (next (hear (Note.Store n) st))
-        by_note (StoreNote.Point v) first is =
-            let same = eqb-true v t is in
-            then _ (subst (λ w. At (noted (StoreNote.Point w) L) (hear (Note.Store (StoreNote.Point v)) st)) same
-            (other (StoreNote.Point v) refl (λ u. refl) (λ u. refl) refl first (λ sound u none dead. kept v sound u same dead)))
-        by_note n first is = absurd (false≢true is)
+        kept : Sound W → (u : ℕ) → contains L.transactions u ≡ false → (b : Bool) → (t == u) ≡ b → pointed u [] (StoreNote.Point t) ≡ []
+        kept sound u dead false e = rw e refl
+        kept sound u dead true e = absurd (false≢true (sym dead ∙ ap (contains L.transactions) (sym (eqb-true t u e)) ∙ lives sound))
 
     pub ask_back : (t : ℕ) (next : Meaning) → (Sound W → (contains L.transactions t ≡ true) × (can_go_back (L.points t) ≡ true))
         → ((after : State) → At (noted (StoreNote.BackTo t) L) after → Ends E (next after)) → Ends E (ask (Want.BackTo t) (λ _. next) st)
     unfolding ask
-    ask_back t next may then = asked Note.Store E (Want.BackTo t) (λ _. next) st st.store (stops (Want.BackTo t) may) by_note
-      where
-        kept : (v u : ℕ) (b : Bool) → (v == u) ≡ b → pointed u [] (StoreNote.BackTo v) ≡ []
-        kept v u true e = rw e refl
-        kept v u false e = rw e refl
-
-        by_note : (n : StoreNote) → st.store ≡ n ∷ drop 1 st.store → is_answer (Want.BackTo t) (Note.Store n) ≡ true → Ends E (next (hear (Note.Store n) st))
-        by_note (StoreNote.BackTo v) first is =
-            then _ (subst (λ w. At (noted (StoreNote.BackTo w) L) (hear (Note.Store (StoreNote.BackTo v)) st)) (eqb-true v t is)
-            (other (StoreNote.BackTo v) refl (λ u. refl) (λ u. refl) refl first (λ sound u none dead. kept v u (v == u) refl)))
-        by_note n first is = absurd (false≢true is)
+    ask_back t next may then = at_point (Want.BackTo t) (StoreNote.BackTo t) next refl may (λ sound u dead. (none_opened t u (t == u) refl).0) then
 
     pub ask_release : (t : ℕ) (next : Meaning) → (Sound W → (contains L.transactions t ≡ true) × (is_pointed (L.points t) ≡ true))
         → ((after : State) → At (noted (StoreNote.Release t) L) after → Ends E (next after)) → Ends E (ask (Want.Release t) (λ _. next) st)
     unfolding ask
-    ask_release t next may then = asked Note.Store E (Want.Release t) (λ _. next) st st.store (stops (Want.Release t) may) by_note
-      where
-        kept : (v u : ℕ) (b : Bool) → (v == u) ≡ b → pointed u [] (StoreNote.Release v) ≡ []
-        kept v u true e = rw e refl
-        kept v u false e = rw e refl
-
-        by_note : (n : StoreNote) → st.store ≡ n ∷ drop 1 st.store → is_answer (Want.Release t) (Note.Store n) ≡ true → Ends E (next (hear (Note.Store n) st))
-        by_note (StoreNote.Release v) first is =
-            then _ (subst (λ w. At (noted (StoreNote.Release w) L) (hear (Note.Store (StoreNote.Release v)) st)) (eqb-true v t is)
-            (other (StoreNote.Release v) refl (λ u. refl) (λ u. refl) refl first (λ sound u none dead. kept v u (v == u) refl)))
-        by_note n first is = absurd (false≢true is)
+    ask_release t next may then = at_point (Want.Release t) (StoreNote.Release t) next refl may (λ sound u dead. (none_opened t u (t == u) refl).1) then
 
     module _ (t : ℕ) (ts : List ℕ) (next : Meaning) (newest : L.transactions ≡ t ∷ ts) (unpointed : Sound W → L.points t ≡ [])
         (then : (after : State) → At (record L { transactions = ts }) after → Ends E (next after)) where

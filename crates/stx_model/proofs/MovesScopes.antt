@@ -8,7 +8,7 @@ use Rattle.std.proofs.lemmas.List.Elements.{All-head, All-tail}
 use Rattle.stx_scenario.specs.declared.numbers.ClassNo.{ClassNo}
 use Rattle.stx_scenario.specs.declared.numbers.MethodNo.{MethodNo}
 use Rattle.stx_scenario.specs.declared.numbers.ListenerNo.{ListenerNo}
-use Rattle.stx_scenario.specs.declared.classes.TheConstants.{CANNOT_CREATE_TRANSACTION_EXCEPTION, NESTED_TRANSACTION_NOT_SUPPORTED_EXCEPTION, UNEXPECTED_ROLLBACK_EXCEPTION}
+use Rattle.stx_scenario.specs.declared.classes.TheConstants.{CANNOT_CREATE_TRANSACTION_EXCEPTION, UNEXPECTED_ROLLBACK_EXCEPTION}
 use Rattle.stx_scenario.specs.declared.scenario.Scenario.{Scenario}
 use Rattle.stx_scenario.specs.declared.scenario.Listener.{Listener}
 use Rattle.stx_scenario.specs.declared.scenario.Phase.{Phase}
@@ -46,7 +46,7 @@ use Rattle.stx_model.proofs.Ledgers.{tallied, tally, nothing_open, one_less, pai
 use Rattle.stx_model.proofs.Moves.{World, noted, Sound, IsAlive, At, AtIn, Ends, Keeps, finally_ends, and_then_ends, either_ends, live_in_ends, said, moved, in_context, same_points, ask_take, ask_give, ask_begin, ask_point, ask_back, ask_release, ask_commit, ask_rollback}
 use Rattle.stx_model.proofs.MovesPieces.{carried_ordered, none_active, plain, throws_go, caught_go, alive_at, row_go, marks_go, registers_go, inside, apart, suspends, resumes, left}
 use Rattle.stx_model.specs.Below.{listener_body}
-use Rattle.stx_model.proofs.Leaving.{empty_is_bare}
+use Rattle.stx_model.proofs.Openings.{opening_tells}
 
 -- ---- what callbacks may hold where their transaction has ended
 
@@ -134,40 +134,6 @@ new_is_fresh S a context is = by context.tx a.propagation is
     by (Some live) Propagation.RequiresNew is = tt
     by None Propagation.RequiresNew is = tt
     by tx p is = absurd (false≢true is)
-
--- a fresh scope that suspends nothing opens in a bare context
-fresh_is_bare : (S : Scenario) (a : TxAttr) (context : Context) (owns : Bool) → opening S.settings a context ≡ Opening.Fresh false owns → (context.tx ≡ None) × (context.syncs ≡ None)
-unfolding opening
-fresh_is_bare S a context owns is = by context.tx refl a.propagation is
-  where
-    inactive : (syncs : Option (List Registration)) (o : Bool) → Opening.Fresh (is_some syncs) o ≡ Opening.Fresh false owns → syncs ≡ None
-    inactive None o e = refl
-    inactive (Some list) o e = cc
-
-    by : (tx : Option Live) → context.tx ≡ tx → (p : Propagation) → elim tx [ Some live ↦ opening_within S.settings live p | None ↦ opening_without S.settings context p ] ≡ Opening.Fresh false owns
-        → (context.tx ≡ None) × (context.syncs ≡ None)
-    by None none Propagation.Required e = (none, inactive context.syncs _ e)
-    by None none Propagation.RequiresNew e = (none, inactive context.syncs _ e)
-    by None none Propagation.Nested e = (none, inactive context.syncs _ e)
-    by None none Propagation.Supports e = cc
-    by None none Propagation.Mandatory e = cc
-    by None none Propagation.NotSupported e = cc
-    by None none Propagation.Never e = cc
-    by (Some live) some Propagation.Nested e = pointless S.settings.nested live.mark e
-      where
-        pointless : (nested mark : Bool) → elim nested [
-          | false ↦ Opening.Refuse NESTED_TRANSACTION_NOT_SUPPORTED_EXCEPTION
-          | true ↦ elim mark [ true ↦ Opening.Refuse CANNOT_CREATE_TRANSACTION_EXCEPTION | false ↦ Opening.Point ]
-        ] ≡ Opening.Fresh false owns → (context.tx ≡ None) × (context.syncs ≡ None)
-        pointless false mark e = cc
-        pointless true true e = cc
-        pointless true false e = cc
-    by (Some live) some Propagation.Required e = cc
-    by (Some live) some Propagation.Supports e = cc
-    by (Some live) some Propagation.Mandatory e = cc
-    by (Some live) some Propagation.RequiresNew e = cc
-    by (Some live) some Propagation.NotSupported e = cc
-    by (Some live) some Propagation.Never e = cc
 
 module _ (W : World) where
   abbrev S : Scenario
@@ -555,7 +521,7 @@ module _ (W : World) where
           let older = st.context in
           let x = CANNOT_CREATE_TRANSACTION_EXCEPTION in
           ask_take W M (apart W m older M) (suspended suspends_it st)
-          (suspended_go M suspends_it st (λ stays. fresh_is_bare S a older owns (is ∙ ap (λ b. Opening.Fresh b owns) stays)) h)
+          (suspended_go M suspends_it st (λ stays. opening_tells S.settings a older (Opening.Fresh false owns) (is ∙ ap (λ b. Opening.Fresh b owns) stays)) h)
           (begins S calls m a run owns older)
           (λ c taken h1. ask_begin W M (record (apart W m older M) { connections = c ∷ M.connections }) taken h1
           (λ t begun. in_scope S calls (record { method = m; kind = Kind.Fresh; owns = owns; older = Some older; outer = begun.local }) a run (with_context (fresh_context c t a.read_only owns) begun))
@@ -576,7 +542,7 @@ module _ (W : World) where
           (λ active none. resumes W m st.context M None active h.tx h.active none) (suspends W m M st h)
       opens_go M (Opening.Empty false owns) st is safe h =
           empty_go M (inside W m M) owns None st
-          (λ own. sym h.active ∙ ap is_some ((empty_is_bare S.settings a st.context owns is).1 own))
+          (λ own. sym h.active ∙ ap is_some ((opening_tells S.settings a st.context (Opening.Empty false owns) is).1 own))
           (λ sound. elim (safe sound) [ inl alive ↦ alive | inr none ↦ absurd none ])
           (λ active same st h. subst (λ b. At W (record (inside W m M) { active = b }) st) same h) h
 

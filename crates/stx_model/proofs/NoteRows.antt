@@ -16,8 +16,9 @@ use Rattle.stx_base.specs.declared.line.Line.{Line}
 use Rattle.stx_model.specs.Contexts.{Context, Registration, bare}
 use Rattle.stx_model.specs.Meanings.{Result, Stops, Breaks}
 use Rattle.stx_model.specs.Script.{script}
-use Rattle.stx_model.proofs.Small.{method_no, m, n, p, a, k, sync_no, s, required, requires_new, nested, last_of_all, method, sync, plainly, with_transaction, pool_note, store_note, Says}
-use Rattle.stx_model.proofs.Traces.{top, call, call_read_only, call_plain, leave, leave_throws, throw, catch, rules_rollback_by, open_fresh_sync, open_join, open_point, end_commit, end_rollback, end_unexpected, mark, mark_global, take, give, unbind, bind, suspend, resume, begin, read, write, erase, auto_read, auto_write, savepoint, back_to, release, commit, rollback, register, before_completion, after_completion_rolled_back}
+use Rattle.stx_model.proofs.Small.{method_no, m, n, p, a, k, sync_no, s, required, requires_new, nested, last_of_all, method, sync, plainly, calling, with_transaction, pool_note, store_note, Says}
+use Rattle.stx_model.proofs.Traces.{top, call, call_read_only, call_plain, leave, catch, open_fresh_sync, open_join, end_commit, end_rollback, end_unexpected, mark, take, give, unbind, bind, suspend, resume, begin, read, write, erase, auto_read, auto_write, savepoint, back_to, release, commit, rollback, register, before_completion, after_completion_rolled_back}
+use Rattle.stx_model.proofs.Passages.{m_begins, n_joins_and_marks, nests}
 use Rattle.stx_model.proofs.PointRows.{marked_inside}
 use Rattle.stx_model.proofs.FlatRows.{writes_and_reads}
 
@@ -57,7 +58,7 @@ abbrev joined_by_a_reader : Scenario
 joined_by_a_reader = record reads_only { methods = method required (Stmt.Call n None ∷ []) ∷ reads_only.methods }
 
 pub a_joined_scope_leaves_the_transaction_as_it_is : Stands joined_by_a_reader
-    (top 0 ∷ call m Propagation.Required ∷ take 1 ∷ begin 1 ∷ open_fresh_sync ∷ call_read_only n Propagation.Required ∷ open_join ∷ [])
+    (m_begins ++ call_read_only n Propagation.Required ∷ open_join ∷ [])
     (Want.Access 1 (Access.Read a)) (with_transaction false (Some [])) (Some false)
 unfolding Stands
 a_joined_scope_leaves_the_transaction_as_it_is = refl
@@ -70,7 +71,7 @@ marked_and_registered = record (plainly (
     ∷ [])) { syncs = sync last_of_all ∷ [] }
 
 abbrev until_the_inner_call : List Line
-until_the_inner_call = top 0 ∷ call m Propagation.Required ∷ take 1 ∷ begin 1 ∷ open_fresh_sync ∷ mark ∷ register s
+until_the_inner_call = m_begins ++ mark ∷ register s
     ∷ call n Propagation.RequiresNew ∷ suspend s ∷ unbind 1 ∷ []
 
 pub what_is_suspended_is_not_carried : Stands marked_and_registered until_the_inner_call Want.Take bare (Some true)
@@ -94,11 +95,9 @@ the_connection_is_bound_until_it_is_given_back = refl
 
 -- a joined scope fails inside a nested one
 abbrev until_the_return : List Line
-until_the_return = top 0 ∷ call m Propagation.Required ∷ take 1 ∷ begin 1 ∷ open_fresh_sync
-    ∷ call p Propagation.Nested ∷ savepoint 1 ∷ open_point
-    ∷ call n Propagation.Required ∷ open_join ∷ throw RUNTIME_EXCEPTION ∷ rules_rollback_by None
-    ∷ end_rollback ∷ mark_global ∷ leave_throws n RUNTIME_EXCEPTION
-    ∷ catch RUNTIME_EXCEPTION
+until_the_return = m_begins
+    ++ nests p
+    ++ n_joins_and_marks ++ catch RUNTIME_EXCEPTION
     ∷ end_unexpected ∷ []
 
 pub a_joined_scope_marks_the_transaction : Stands marked_inside until_the_return (Want.BackTo 1) (with_transaction true (Some [])) (Some false)
@@ -153,7 +152,7 @@ unfolding Says
 and_so_outside_a_transaction = refl
 
 -- nothing; another transaction's savepoint, return and release
-pub and_so_at_savepoints : map (breaks_over (plainly (method required (Stmt.Call n None ∷ []) ∷ method nested (Stmt.Mark ∷ []) ∷ []))) (
+pub and_so_at_savepoints : map (breaks_over (calling None (method nested (Stmt.Mark ∷ [])))) (
     (take 1 ∷ begin 1 ∷ savepoint 1 ∷ back_to 1 ∷ release 1 ∷ commit 1 1 ∷ give 1 ∷ [])
     ∷ (take 1 ∷ begin 1 ∷ savepoint 2 ∷ [])
     ∷ (take 1 ∷ begin 1 ∷ savepoint 1 ∷ back_to 2 ∷ [])

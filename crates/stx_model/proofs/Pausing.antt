@@ -286,17 +286,13 @@ module _ (R : ℕ) where
 
     callback_statement_paces : (s : Stmt) → Paces 0 (callback_statement S calls s)
     unfolding callback_statement
-    callback_statement_paces (Stmt.Read k) st counted = row_statement_paces st.context.tx (Stmt.Read k) st counted
-    callback_statement_paces (Stmt.Write k v) st counted = row_statement_paces st.context.tx (Stmt.Write k v) st counted
-    callback_statement_paces (Stmt.Erase k) st counted = row_statement_paces st.context.tx (Stmt.Erase k) st counted
-    callback_statement_paces (Stmt.Add k n) st counted = row_statement_paces st.context.tx (Stmt.Add k n) st counted
-    callback_statement_paces (Stmt.Need k n) st counted = row_statement_paces st.context.tx (Stmt.Need k n) st counted
     callback_statement_paces (Stmt.Throw x) st counted = throws_paces x st counted
     callback_statement_paces (Stmt.Call m catch) st counted = finally_paces 0 st (calls Proxied m st) (caught S catch) (called Proxied m st counted) (caught_paces S catch)
     callback_statement_paces (Stmt.This m catch) st counted = stays st counted
     callback_statement_paces Stmt.Mark st counted = stays st counted
     callback_statement_paces (Stmt.Publish e) st counted = stays st counted
     callback_statement_paces (Stmt.Register s) st counted = stays st counted
+    callback_statement_paces s st counted = row_statement_paces st.context.tx s st counted
 
     callback_paces : (statements : List Stmt) → Paces 0 (callback S calls statements)
     unfolding callback
@@ -428,20 +424,18 @@ module _ (R : ℕ) where
   room (Action.Resumption ∷ rest) = R + room rest
   room (_ ∷ rest) = room rest
 
+  at_each : (kind : Kind) → room (completion kind Ending.Commit) ≤ R → room (completion kind Ending.Rollback) ≤ R → room (completion kind Ending.Unexpected) ≤ R
+      → (e : Ending) → room (completion kind e) ≤ R
+  at_each kind commits rolls_back unexpected Ending.Commit = commits
+  at_each kind commits rolls_back unexpected Ending.Rollback = rolls_back
+  at_each kind commits rolls_back unexpected Ending.Unexpected = unexpected
+
   room_within : (kind : Kind) (e : Ending) → room (completion kind e) ≤ R
   unfolding completion
-  room_within Kind.Fresh Ending.Commit = omega arith
-  room_within Kind.Fresh Ending.Rollback = omega arith
-  room_within Kind.Fresh Ending.Unexpected = omega arith
-  room_within Kind.Join Ending.Commit = omega arith
-  room_within Kind.Join Ending.Rollback = omega arith
-  room_within Kind.Join Ending.Unexpected = omega arith
-  room_within Kind.Point Ending.Commit = omega arith
-  room_within Kind.Point Ending.Rollback = omega arith
-  room_within Kind.Point Ending.Unexpected = omega arith
-  room_within Kind.Empty Ending.Commit = omega arith
-  room_within Kind.Empty Ending.Rollback = omega arith
-  room_within Kind.Empty Ending.Unexpected = omega arith
+  room_within Kind.Fresh e = at_each Kind.Fresh (omega arith) (omega arith) (omega arith) e
+  room_within Kind.Join e = at_each Kind.Join (omega arith) (omega arith) (omega arith) e
+  room_within Kind.Point e = at_each Kind.Point (omega arith) (omega arith) (omega arith) e
+  room_within Kind.Empty e = at_each Kind.Empty (omega arith) (omega arith) (omega arith) e
 
   room_after : (kind : Kind) (e : Ending) (y : Option ClassNo) → room (completion_after kind e y) ≤ R
   room_after kind e None = room_within kind e
@@ -635,13 +629,7 @@ module _ (R : ℕ) where
     statement_paces (Stmt.Publish e) st counted =
         said_then 0 (Line.Publish e) (deals S calls (deeds S e (is_active st.context) (is_live st.context))) st refl counted (deals_paces (deeds S e (is_active st.context) (is_live st.context)))
     statement_paces (Stmt.This m catch) st counted = finally_paces 0 st (calls Direct m st) (caught S catch) (called Direct m st counted) (caught_paces S catch)
-    statement_paces (Stmt.Read k) st counted = callback_statement_paces S calls called (Stmt.Read k) st counted
-    statement_paces (Stmt.Write k v) st counted = callback_statement_paces S calls called (Stmt.Write k v) st counted
-    statement_paces (Stmt.Erase k) st counted = callback_statement_paces S calls called (Stmt.Erase k) st counted
-    statement_paces (Stmt.Add k n) st counted = callback_statement_paces S calls called (Stmt.Add k n) st counted
-    statement_paces (Stmt.Need k n) st counted = callback_statement_paces S calls called (Stmt.Need k n) st counted
-    statement_paces (Stmt.Call m catch) st counted = callback_statement_paces S calls called (Stmt.Call m catch) st counted
-    statement_paces (Stmt.Throw x) st counted = callback_statement_paces S calls called (Stmt.Throw x) st counted
+    statement_paces s st counted = callback_statement_paces S calls called s st counted
 
     body_paces : (statements : List Stmt) → Paces 0 (body S calls statements)
     unfolding body

@@ -1,6 +1,6 @@
 -- Worked rows: methods without an attribute, calls of the same bean, own statements, and attributes of beans.
 use Rattle.std.proofs.Common.{pos, ◌-◌, ◌^◌, true, false, [], ◌∷◌, Some, None, refl}
-use Rattle.std.specs.Prelude.{codes}
+use Rattle.std.specs.Prelude.{codes, ◌++◌}
 use Rattle.stx_scenario.specs.declared.classes.TheConstants.{RUNTIME_EXCEPTION, ILLEGAL_STATE_EXCEPTION, ARITHMETIC_EXCEPTION, CANNOT_ACQUIRE_LOCK_EXCEPTION}
 use Rattle.stx_scenario.specs.declared.scenario.Scenario.{Scenario}
 use Rattle.stx_scenario.specs.declared.scenario.Propagation.{Propagation}
@@ -8,35 +8,23 @@ use Rattle.stx_scenario.specs.declared.scenario.TxAttr.{TxAttr}
 use Rattle.stx_scenario.specs.declared.scenario.RuleBy.{RuleBy}
 use Rattle.stx_scenario.specs.declared.scenario.Stmt.{Stmt}
 use Rattle.stx_base.specs.declared.history.Answer.{Answer}
-use Rattle.stx_model.proofs.Small.{m, n, p, a, required, requires_new, never, method, plainly, Says}
+use Rattle.stx_model.proofs.Small.{m, n, p, a, required, requires_new, never, method, failing, plainly, calling, Says}
 use Rattle.stx_model.proofs.Traces.{top, call, call_read_only, call_plain, this, leave, leave_throws, throw, catch, rules_rollback_by, rules_keep_by, open_fresh_sync, open_empty_sync, end_commit, end_rollback, mark, take, give, begin, read, write, auto_read, auto_write, commit, rollback}
+use Rattle.stx_model.proofs.Passages.{m_begins, m_commits, m_rolls_back, throws_out}
 
 -- ---- calls that open no scope
 
-abbrev self_call : Scenario
-self_call = plainly (
-    method required (Stmt.This n None ∷ [])
-    ∷ method requires_new (Stmt.Read a ∷ [])
-    ∷ [])
-
-pub a_call_of_the_same_bean_is_not_intercepted : Says self_call 0 (
-    top 0 ∷ call m Propagation.Required ∷ take 1 ∷ begin 1 ∷ open_fresh_sync
-    ∷ this n ∷ read 1 a Answer.Absent ∷ leave n
-    ∷ end_commit ∷ commit 1 1 ∷ give 1 ∷ leave m ∷ [])
+pub a_call_of_the_same_bean_is_not_intercepted :
+    Says (plainly (method required (Stmt.This n None ∷ []) ∷ method requires_new (Stmt.Read a ∷ []) ∷ [])) 0 (
+    m_begins ++ this n ∷ read 1 a Answer.Absent ∷ leave n
+    ∷ m_commits)
 unfolding Says
 a_call_of_the_same_bean_is_not_intercepted = refl
 
 -- its exception is caught, and no rule is asked of it
-abbrev failed_self_call : Scenario
-failed_self_call = plainly (
-    method required (Stmt.This n (Some RUNTIME_EXCEPTION) ∷ [])
-    ∷ method required (Stmt.Throw RUNTIME_EXCEPTION ∷ [])
-    ∷ [])
-
-pub a_failed_call_of_the_same_bean_marks_nothing : Says failed_self_call 0 (
-    top 0 ∷ call m Propagation.Required ∷ take 1 ∷ begin 1 ∷ open_fresh_sync
-    ∷ this n ∷ throw RUNTIME_EXCEPTION ∷ leave_throws n RUNTIME_EXCEPTION ∷ catch RUNTIME_EXCEPTION
-    ∷ end_commit ∷ commit 1 1 ∷ give 1 ∷ leave m ∷ [])
+pub a_failed_call_of_the_same_bean_marks_nothing : Says (plainly (method required (Stmt.This n (Some RUNTIME_EXCEPTION) ∷ []) ∷ failing ∷ [])) 0 (
+    m_begins ++ this n ∷ throws_out RUNTIME_EXCEPTION n ++ catch RUNTIME_EXCEPTION
+    ∷ m_commits)
 unfolding Says
 a_failed_call_of_the_same_bean_marks_nothing = refl
 
@@ -48,24 +36,16 @@ marked_self_call = plainly (
     ∷ [])
 
 pub a_mark_in_a_call_of_the_same_bean_is_that_of_the_scope_round_it : Says marked_self_call 0 (
-    top 0 ∷ call m Propagation.Required ∷ take 1 ∷ begin 1 ∷ open_fresh_sync
-    ∷ this n ∷ mark ∷ leave n ∷ read 1 a Answer.Absent
-    ∷ end_rollback ∷ rollback 1 ∷ give 1 ∷ leave m ∷ [])
+    m_begins ++ this n ∷ mark ∷ leave n ∷ read 1 a Answer.Absent
+    ∷ m_rolls_back)
 unfolding Says
 a_mark_in_a_call_of_the_same_bean_is_that_of_the_scope_round_it = refl
 
 -- a method without an attribute writes in its caller's transaction
-abbrev plain_call : Scenario
-plain_call = plainly (
-    method required (Stmt.Call n (Some RUNTIME_EXCEPTION) ∷ [])
-    ∷ method None (Stmt.Write a (pos 1) ∷ Stmt.Throw RUNTIME_EXCEPTION ∷ [])
-    ∷ [])
-
-pub a_plain_method_runs_in_the_transaction_of_its_caller : Says plain_call 0 (
-    top 0 ∷ call m Propagation.Required ∷ take 1 ∷ begin 1 ∷ open_fresh_sync
-    ∷ call_plain n ∷ write 1 a (pos 1) Answer.Done ∷ throw RUNTIME_EXCEPTION ∷ leave_throws n RUNTIME_EXCEPTION
-    ∷ catch RUNTIME_EXCEPTION
-    ∷ end_commit ∷ commit 1 1 ∷ give 1 ∷ leave m ∷ [])
+pub a_plain_method_runs_in_the_transaction_of_its_caller :
+    Says (calling (Some RUNTIME_EXCEPTION) (method None (Stmt.Write a (pos 1) ∷ Stmt.Throw RUNTIME_EXCEPTION ∷ []))) 0 (
+    m_begins ++ call_plain n ∷ write 1 a (pos 1) Answer.Done ∷ throws_out RUNTIME_EXCEPTION n ++ catch RUNTIME_EXCEPTION
+    ∷ m_commits)
 unfolding Says
 a_plain_method_runs_in_the_transaction_of_its_caller = refl
 
@@ -84,39 +64,30 @@ each_statement_outside_a_transaction_has_a_connection_of_its_own = refl
 
 pub an_own_add_that_is_busy_writes_nothing_and_gives_back_before_it_throws : Says own_add 0 (
     top 0 ∷ call_plain m
-    ∷ take 2 ∷ auto_read a (Answer.Busy 1) ∷ give 2 ∷ throw CANNOT_ACQUIRE_LOCK_EXCEPTION ∷ leave_throws m CANNOT_ACQUIRE_LOCK_EXCEPTION ∷ [])
+    ∷ take 2 ∷ auto_read a (Answer.Busy 1) ∷ give 2 ∷ throws_out CANNOT_ACQUIRE_LOCK_EXCEPTION m)
 unfolding Says
 an_own_add_that_is_busy_writes_nothing_and_gives_back_before_it_throws = refl
 
 pub an_own_add_may_be_busy_at_its_write : Says own_add 0 (
     top 0 ∷ call_plain m
     ∷ take 2 ∷ auto_read a Answer.Absent ∷ auto_write a (pos 2) (Answer.Busy 1) ∷ give 2
-    ∷ throw CANNOT_ACQUIRE_LOCK_EXCEPTION ∷ leave_throws m CANNOT_ACQUIRE_LOCK_EXCEPTION ∷ [])
+    ∷ throws_out CANNOT_ACQUIRE_LOCK_EXCEPTION m)
 unfolding Says
 an_own_add_may_be_busy_at_its_write = refl
 
-abbrev own_overflow : Scenario
-own_overflow = plainly (method None (Stmt.Add a (pos 1) ∷ []) ∷ [])
-
-pub an_own_add_that_overflows_writes_nothing : Says own_overflow 0 (
+pub an_own_add_that_overflows_writes_nothing : Says (plainly (method None (Stmt.Add a (pos 1) ∷ []) ∷ [])) 0 (
     top 0 ∷ call_plain m
-    ∷ take 1 ∷ auto_read a (Answer.Found (pos (2 ^ 63 - 1))) ∷ give 1 ∷ throw ARITHMETIC_EXCEPTION ∷ leave_throws m ARITHMETIC_EXCEPTION ∷ [])
+    ∷ take 1 ∷ auto_read a (Answer.Found (pos (2 ^ 63 - 1))) ∷ give 1 ∷ throws_out ARITHMETIC_EXCEPTION m)
 unfolding Says
 an_own_add_that_overflows_writes_nothing = refl
 
-abbrev own_need : Scenario
-own_need = plainly (method None (Stmt.Need a (pos 1) ∷ []) ∷ [])
-
-pub an_own_need_of_an_absent_row_throws : Says own_need 0 (
+pub an_own_need_of_an_absent_row_throws : Says (plainly (method None (Stmt.Need a (pos 1) ∷ []) ∷ [])) 0 (
     top 0 ∷ call_plain m
-    ∷ take 1 ∷ auto_read a Answer.Absent ∷ give 1 ∷ throw ILLEGAL_STATE_EXCEPTION ∷ leave_throws m ILLEGAL_STATE_EXCEPTION ∷ [])
+    ∷ take 1 ∷ auto_read a Answer.Absent ∷ give 1 ∷ throws_out ILLEGAL_STATE_EXCEPTION m)
 unfolding Says
 an_own_need_of_an_absent_row_throws = refl
 
-abbrev never_writes : Scenario
-never_writes = plainly (method never (Stmt.Write a (pos 1) ∷ []) ∷ [])
-
-pub in_an_empty_scope_statements_are_own_ones : Says never_writes 0 (
+pub in_an_empty_scope_statements_are_own_ones : Says (plainly (method never (Stmt.Write a (pos 1) ∷ []) ∷ [])) 0 (
     top 0 ∷ call m Propagation.Never ∷ open_empty_sync
     ∷ take 1 ∷ auto_write a (pos 1) Answer.Done ∷ give 1
     ∷ end_commit ∷ leave m ∷ [])
@@ -137,18 +108,16 @@ bean_attribute = record {
 abbrev own_attribute_and_none : Scenario
 own_attribute_and_none = record (plainly (
     method None (Stmt.Call n (Some RUNTIME_EXCEPTION) ∷ Stmt.Call p (Some RUNTIME_EXCEPTION) ∷ [])
-    ∷ record (method required (Stmt.Throw RUNTIME_EXCEPTION ∷ [])) { bean = record { 0 = 1 } }
+    ∷ record failing { bean = record { 0 = 1 } }
     ∷ record (method None (Stmt.Throw RUNTIME_EXCEPTION ∷ [])) { bean = record { 0 = 1 } }
     ∷ [])) { beans = record { name = codes "b"; tx = None } ∷ record { name = codes "c"; tx = Some bean_attribute } ∷ [] }
 
 pub the_attribute_of_a_method_replaces_that_of_its_bean_wholly : Says own_attribute_and_none 0 (
     top 0 ∷ call_plain m
     ∷ call n Propagation.Required ∷ take 1 ∷ begin 1 ∷ open_fresh_sync ∷ throw RUNTIME_EXCEPTION ∷ rules_rollback_by None
-    ∷ end_rollback ∷ rollback 1 ∷ give 1 ∷ leave_throws n RUNTIME_EXCEPTION
-    ∷ catch RUNTIME_EXCEPTION
+    ∷ end_rollback ∷ rollback 1 ∷ give 1 ∷ leave_throws n RUNTIME_EXCEPTION ∷ catch RUNTIME_EXCEPTION
     ∷ call_read_only p Propagation.RequiresNew ∷ take 1 ∷ begin 2 ∷ open_fresh_sync ∷ throw RUNTIME_EXCEPTION ∷ rules_keep_by (Some 0)
-    ∷ end_commit ∷ commit 2 1 ∷ give 1 ∷ leave_throws p RUNTIME_EXCEPTION
-    ∷ catch RUNTIME_EXCEPTION
+    ∷ end_commit ∷ commit 2 1 ∷ give 1 ∷ leave_throws p RUNTIME_EXCEPTION ∷ catch RUNTIME_EXCEPTION
     ∷ leave m ∷ [])
 unfolding Says
 the_attribute_of_a_method_replaces_that_of_its_bean_wholly = refl

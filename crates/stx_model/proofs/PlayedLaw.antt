@@ -1,5 +1,5 @@
 -- When histories are faithful: they are legal, and each client's script over its own notes is done and has read them all.
-use Rattle.std.proofs.Common.{◌≡◌, ℕ, ◌<◌, true, false, not, ◌&&◌, ◌||◌, ◌==◌, List, [], ◌∷◌, ◌++◌, map, length, Some, refl, sym, ap, ◌∙◌, subst, inl, inr, arith}
+use Rattle.std.proofs.Common.{◌≡◌, ◌≢◌, ℕ, ◌<◌, true, false, not, ◌&&◌, ◌||◌, ◌==◌, List, [], ◌∷◌, ◌++◌, map, length, Some, refl, sym, ap, ◌∙◌, subst, inl, inr, arith}
 use Rattle.std.specs.Prelude.{slice_get}
 use Rattle.std.specs.List.{list_any}
 use Rattle.std.proofs.lemmas.Bool.{false≢true, cases_Bool, cases_eq, or_cases, or_left, or_right, and_parts, not-true}
@@ -31,33 +31,48 @@ use Rattle.stx_model.proofs.BracketLaws.{balanced}
 use Rattle.stx_model.proofs.ProperLaws.{gives_all_back, none_live}
 use Rattle.stx_model.proofs.SerialLaw.{journal_serial}
 
--- ---- what is out has an owner
+-- ---- what the whole has, a client has
 
--- a client below the count that has a connection out in its own notes
-record Owner (clients : ℕ) (H : List PoolEntry) (n : ℕ) : Type 0 where
+-- a client below the count that has this number, by what each client has after a history
+record Holder {E : Type 0} (has : List E → ℕ → List ℕ) (clients : ℕ) (H : List E) (n : ℕ) : Type 0 where
   client : ℕ
   below : client < clients
-  has : contains (out (pool_notes_of H client)) n ≡ true
+  holds : contains (has H client) n ≡ true
 
--- each connection that is out has an owner
+-- each number that is in the whole, a client has
+abbrev IsHeld : {E : Type 0} → (List E → ℕ → List ℕ) → (List E → List ℕ) → ℕ → List E → Type 0
+IsHeld has whole clients H = (n : ℕ) → contains (whole H) n ≡ true → Holder has clients H n
+
+-- it stays one after an entry of its own that leaves the number, and after any entry of another client
+holder_kept : {E : Type 0} (has : List E → ℕ → List ℕ) (clients : ℕ) (H : List E) (e : E) (n by : ℕ) (was : Holder has clients H n)
+    → (by ≡ was.client → contains (has (H ++ e ∷ []) was.client) n ≡ true)
+    → (by ≢ was.client → has (H ++ e ∷ []) was.client ≡ has H was.client) → Holder has clients (H ++ e ∷ []) n
+holder_kept has clients H e n by was own other = record {
+  client = was.client;
+  below = was.below;
+  holds = elim (cases_eq by was.client) [
+    | inl same ↦ own same
+    | inr differs ↦ ap (λ ns. contains ns n) (other differs) ∙ was.holds
+  ];
+}
+
+-- ---- what is out has an owner
+
+abbrev own_out : List PoolEntry → ℕ → List ℕ
+own_out H client = out (pool_notes_of H client)
+
+abbrev Owner : ℕ → List PoolEntry → ℕ → Type 0
+Owner = Holder own_out
+
 abbrev IsOwned : ℕ → List PoolEntry → Type 0
-IsOwned clients H = (n : ℕ) → contains (out (pool_notes H)) n ≡ true → Owner clients H n
+IsOwned = IsHeld own_out (λ H. out (pool_notes H))
 
 -- the owner stays one where the entry doesn't give the connection
 owner_kept : (clients : ℕ) (H : List PoolEntry) (e : PoolEntry) (n : ℕ) → Owner clients H n
     → ((taken : List ℕ) → contains taken n ≡ true → contains (out_after taken e.note) n ≡ true) → Owner clients (H ++ e ∷ []) n
-owner_kept clients H e n was stays = elim (cases_eq e.client was.client) [
-  | inl own ↦ record {
-    client = was.client;
-    below = was.below;
-    has = ap (λ ns. contains ns n) (own_out-push H e was.client own) ∙ stays (out (pool_notes_of H was.client)) was.has;
-  }
-  | inr other ↦ record {
-    client = was.client;
-    below = was.below;
-    has = ap (λ ns. contains (out ns) n) (pool_notes_of-push_other H e was.client other) ∙ was.has;
-  }
-]
+owner_kept clients H e n was stays = holder_kept own_out clients H e n e.client was
+    (λ own. ap (λ ns. contains ns n) (own_out-push H e was.client own) ∙ stays (own_out H was.client) was.holds)
+    (λ other. ap out (pool_notes_of-push_other H e was.client other))
 
 owned_more : (clients size : ℕ) (H : List PoolEntry) (e : PoolEntry) → IsOwned clients H → PoolFits clients size H e → IsOwned clients (H ++ e ∷ [])
 owned_more clients size H e was fits n there = by_note e.note refl (ap (λ ns. contains ns n) (sym (out-push H e)) ∙ there)
@@ -67,9 +82,9 @@ owned_more clients size H e was fits n there = by_note e.note refl (ap (λ ns. c
       | inl this ↦ record {
         client = e.client;
         below = fits.client;
-        has =
-            ap (λ ns. contains ns n) (own_out-push H e e.client refl ∙ ap (out_after (out (pool_notes_of H e.client))) is)
-            ∙ or_left (c == n) (contains (out (pool_notes_of H e.client)) n) this;
+        holds =
+            ap (λ ns. contains ns n) (own_out-push H e e.client refl ∙ ap (out_after (own_out H e.client)) is)
+            ∙ or_left (c == n) (contains (own_out H e.client) n) this;
       }
       | inr before ↦ owner_kept clients H e n (was n before) (λ taken h. ap (λ m. contains (out_after taken m) n) is ∙ or_right (c == n) (contains taken n) h)
     ]
@@ -83,21 +98,17 @@ none_out : (clients size : ℕ) (H : List PoolEntry) → PoolLegal clients size 
 none_out clients size H legal none = none_live (out (pool_notes H)) (λ n. elim (cases_Bool (contains (out (pool_notes H)) n)) [
   | inl there ↦
       let owner : Owner clients H n = PoolLegal-along clients size (IsOwned clients) (λ m h. absurd (false≢true h)) (owned_more clients size) H legal n there in
-      absurd (false≢true (ap (λ ns. contains ns n) (sym (none owner.client owner.below)) ∙ owner.has))
+      absurd (false≢true (ap (λ ns. contains ns n) (sym (none owner.client owner.below)) ∙ owner.holds))
   | inr absent ↦ absent
 ])
 
 -- ---- what lives was begun by a client
 
--- a client below the count that began a transaction in its own notes
-record Beginner (clients : ℕ) (H : List StoreEntry) (t : ℕ) : Type 0 where
-  client : ℕ
-  below : client < clients
-  began : contains (begun (store_notes_of H client)) t ≡ true
+abbrev own_begun : List StoreEntry → ℕ → List ℕ
+own_begun H client = begun (store_notes_of H client)
 
--- each transaction that was begun has a beginner
 abbrev IsBegun : ℕ → List StoreEntry → Type 0
-IsBegun clients H = (t : ℕ) → contains (begun (store_notes H)) t ≡ true → Beginner clients H t
+IsBegun = IsHeld own_begun (λ H. begun (store_notes H))
 
 contains_begun-push : (ns : List StoreNote) (n : StoreNote) (t : ℕ) → contains (begun (ns ++ n ∷ [])) t ≡ (contains (begun ns) t || contains (begun (n ∷ [])) t)
 contains_begun-push ns n t = ap (λ us. contains us t) (begun-push ns n) ∙ list_any-append (λ m. m == t) (begun ns) (begun (n ∷ []))
@@ -108,7 +119,7 @@ begun_more clients facts H e was fits t there = elim (or_cases (contains (begun 
   | inr new ↦ record {
     client = e.client;
     below = fits.client;
-    began =
+    holds =
         ap (λ ns. contains (begun ns) t) (store_notes_of-push H e e.client refl)
         ∙ contains_begun-push (store_notes_of H e.client) e.note t
         ∙ or_right (contains (begun (store_notes_of H e.client)) t) (contains (begun (e.note ∷ [])) t) new;
@@ -118,29 +129,19 @@ begun_more clients facts H e was fits t there = elim (or_cases (contains (begun 
     now : (contains (begun (store_notes H)) t || contains (begun (e.note ∷ [])) t) ≡ true
     now = sym (ap (λ ns. contains (begun ns) t) (store_notes-push H e) ∙ contains_begun-push (store_notes H) e.note t) ∙ there
 
-    kept : Beginner clients H t → Beginner clients (H ++ e ∷ []) t
-    kept by = elim (cases_eq e.client by.client) [
-      | inl own ↦ record {
-        client = by.client;
-        below = by.below;
-        began =
-            ap (λ ns. contains (begun ns) t) (store_notes_of-push H e by.client own)
-            ∙ contains_begun-push (store_notes_of H by.client) e.note t
-            ∙ or_left (contains (begun (store_notes_of H by.client)) t) (contains (begun (e.note ∷ [])) t) by.began;
-      }
-      | inr other ↦ record {
-        client = by.client;
-        below = by.below;
-        began = ap (λ ns. contains (begun ns) t) (store_notes_of-push_other H e by.client other) ∙ by.began;
-      }
-    ]
+    kept : Holder own_begun clients H t → Holder own_begun clients (H ++ e ∷ []) t
+    kept by = holder_kept own_begun clients H e t e.client by (λ own.
+        ap (λ ns. contains (begun ns) t) (store_notes_of-push H e by.client own)
+        ∙ contains_begun-push (store_notes_of H by.client) e.note t
+        ∙ or_left (contains (own_begun H by.client) t) (contains (begun (e.note ∷ [])) t) by.holds)
+        (λ other. ap begun (store_notes_of-push_other H e by.client other))
 
 -- a transaction that lives in the whole lives in the notes of its beginner
-lives_at_beginner : (clients : ℕ) (H : List StoreEntry) (t : ℕ) (by : Beginner clients H t) → list_any (ends t) (store_notes H) ≡ false
+lives_at_beginner : (clients : ℕ) (H : List StoreEntry) (t : ℕ) (by : Holder own_begun clients H t) → list_any (ends t) (store_notes H) ≡ false
     → is_live (store_notes_of H by.client) t ≡ true
 lives_at_beginner clients H t by unended =
     is_live-parts (store_notes_of H by.client) t
-    ∙ ap (λ b. b && not (list_any (ends t) (store_notes_of H by.client))) by.began
+    ∙ ap (λ b. b && not (list_any (ends t) (store_notes_of H by.client))) by.holds
     ∙ ap not (none_of (ends t) H by.client unended)
 
 -- where none lives in the notes of a client below the count, none lives
@@ -149,7 +150,7 @@ none_lives : (clients : ℕ) (facts : StoreFacts) (H : List StoreEntry) → Stor
 none_lives clients facts H legal none = none_live (live (store_notes H)) (λ t. elim (cases_Bool (is_live (store_notes H) t)) [
   | inl lives ↦
       let parts = and_parts (contains (begun (store_notes H)) t) (not (list_any (ends t) (store_notes H))) (sym (is_live-parts (store_notes H) t) ∙ lives) in
-      let by : Beginner clients H t = StoreLegal-along clients facts (IsBegun clients) (λ u h. absurd (false≢true h)) (begun_more clients facts) H legal t parts.0 in
+      let by : Holder own_begun clients H t = StoreLegal-along clients facts (IsBegun clients) (λ u h. absurd (false≢true h)) (begun_more clients facts) H legal t parts.0 in
       let own : is_live (store_notes_of H by.client) t ≡ true = lives_at_beginner clients H t by (not-true (list_any (ends t) (store_notes H)) parts.1) in
       absurd (false≢true (ap (λ ts. contains ts t) (sym (none by.client by.below)) ∙ own))
   | inr absent ↦ absent

@@ -1,72 +1,46 @@
 -- Worked rows: savepoints, which nested scopes make.
 use Rattle.std.proofs.Common.{pos, false, [], ◌∷◌, Some, None, refl}
+use Rattle.std.specs.Prelude.{◌++◌}
 use Rattle.stx_scenario.specs.declared.classes.TheConstants.{EXCEPTION, RUNTIME_EXCEPTION, CANNOT_CREATE_TRANSACTION_EXCEPTION, NESTED_TRANSACTION_NOT_SUPPORTED_EXCEPTION, UNEXPECTED_ROLLBACK_EXCEPTION, CANNOT_ACQUIRE_LOCK_EXCEPTION}
 use Rattle.stx_scenario.specs.declared.scenario.Scenario.{Scenario}
 use Rattle.stx_scenario.specs.declared.scenario.Propagation.{Propagation}
 use Rattle.stx_scenario.specs.declared.scenario.SyncMode.{SyncMode}
 use Rattle.stx_scenario.specs.declared.scenario.Stmt.{Stmt}
 use Rattle.stx_base.specs.declared.history.Answer.{Answer}
-use Rattle.stx_model.proofs.Small.{m, n, p, a, k, sync_no, s, required, nested, settings, last_of_all, method, sync, plainly, Says}
-use Rattle.stx_model.proofs.Traces.{top, call, leave, leave_throws, throw, catch, rules_rollback_by, rules_keep_by, open_fresh_sync, open_join, open_point, end_commit, end_rollback, end_unexpected, mark, mark_global, take, give, begin, read, write, savepoint, back_to, release, commit, rollback, register, before_commit, before_completion, after_commit, after_completion_committed}
+use Rattle.stx_model.proofs.Small.{m, n, p, a, k, sync_no, s, required, nested, settings, last_of_all, method, failing, sync, plainly, calling, marked_and_then, Says}
+use Rattle.stx_model.proofs.Traces.{top, call, leave, leave_throws, throw, catch, rules_rollback_by, rules_keep_by, open_fresh_sync, end_commit, end_rollback, end_unexpected, mark, take, give, begin, read, write, back_to, release, rollback, register}
+use Rattle.stx_model.proofs.Passages.{m_begins, m_commits, m_commits_with, m_ends_unexpectedly, n_joins_and_marks, nests, goes_back_by, throws_out}
 
 -- ---- a nested scope ends
 
-abbrev nested_success : Scenario
-nested_success = plainly (
-    method required (Stmt.Call n None ∷ [])
-    ∷ method nested (Stmt.Write a (pos 1) ∷ [])
-    ∷ [])
-
-pub a_nested_commit_releases_its_savepoint : Says nested_success 0 (
-    top 0 ∷ call m Propagation.Required ∷ take 1 ∷ begin 1 ∷ open_fresh_sync
-    ∷ call n Propagation.Nested ∷ savepoint 1 ∷ open_point ∷ write 1 a (pos 1) Answer.Done
+pub a_nested_commit_releases_its_savepoint : Says (calling None (method nested (Stmt.Write a (pos 1) ∷ []))) 0 (
+    m_begins ++ nests n ++ write 1 a (pos 1) Answer.Done
     ∷ end_commit ∷ release 1 ∷ leave n
-    ∷ end_commit ∷ commit 1 1 ∷ give 1 ∷ leave m ∷ [])
+    ∷ m_commits)
 unfolding Says
 a_nested_commit_releases_its_savepoint = refl
 
 abbrev nested_failure : Scenario
-nested_failure = plainly (
-    method required (Stmt.Call n (Some RUNTIME_EXCEPTION) ∷ [])
-    ∷ method nested (Stmt.Write a (pos 1) ∷ Stmt.Throw RUNTIME_EXCEPTION ∷ [])
-    ∷ [])
+nested_failure = calling (Some RUNTIME_EXCEPTION) (method nested (Stmt.Write a (pos 1) ∷ Stmt.Throw RUNTIME_EXCEPTION ∷ []))
 
 pub a_nested_failure_goes_back_to_its_savepoint : Says nested_failure 0 (
-    top 0 ∷ call m Propagation.Required ∷ take 1 ∷ begin 1 ∷ open_fresh_sync
-    ∷ call n Propagation.Nested ∷ savepoint 1 ∷ open_point ∷ write 1 a (pos 1) Answer.Done ∷ throw RUNTIME_EXCEPTION ∷ rules_rollback_by None
-    ∷ end_rollback ∷ back_to 1 ∷ release 1 ∷ leave_throws n RUNTIME_EXCEPTION
-    ∷ catch RUNTIME_EXCEPTION
-    ∷ end_commit ∷ commit 1 1 ∷ give 1 ∷ leave m ∷ [])
+    m_begins ++ nests n ++ write 1 a (pos 1) Answer.Done ∷ throw RUNTIME_EXCEPTION ∷ goes_back_by RUNTIME_EXCEPTION n ++ catch RUNTIME_EXCEPTION
+    ∷ m_commits)
 unfolding Says
 a_nested_failure_goes_back_to_its_savepoint = refl
 
 -- the rules of the nested method keep the class that it throws
-abbrev nested_kept : Scenario
-nested_kept = plainly (
-    method required (Stmt.Call n (Some EXCEPTION) ∷ [])
-    ∷ method nested (Stmt.Throw EXCEPTION ∷ [])
-    ∷ [])
-
-pub a_nested_scope_that_keeps_its_exception_releases : Says nested_kept 0 (
-    top 0 ∷ call m Propagation.Required ∷ take 1 ∷ begin 1 ∷ open_fresh_sync
-    ∷ call n Propagation.Nested ∷ savepoint 1 ∷ open_point ∷ throw EXCEPTION ∷ rules_keep_by None
-    ∷ end_commit ∷ release 1 ∷ leave_throws n EXCEPTION
-    ∷ catch EXCEPTION
-    ∷ end_commit ∷ commit 1 1 ∷ give 1 ∷ leave m ∷ [])
+pub a_nested_scope_that_keeps_its_exception_releases : Says (calling (Some EXCEPTION) (method nested (Stmt.Throw EXCEPTION ∷ []))) 0 (
+    m_begins ++ nests n ++ throw EXCEPTION ∷ rules_keep_by None
+    ∷ end_commit ∷ release 1 ∷ leave_throws n EXCEPTION ∷ catch EXCEPTION
+    ∷ m_commits)
 unfolding Says
 a_nested_scope_that_keeps_its_exception_releases = refl
 
 -- a nested scope marks itself
-abbrev nested_mark : Scenario
-nested_mark = plainly (
-    method required (Stmt.Call n None ∷ [])
-    ∷ method nested (Stmt.Mark ∷ [])
-    ∷ [])
-
-pub a_marked_nested_scope_goes_back_and_throws_nothing : Says nested_mark 0 (
-    top 0 ∷ call m Propagation.Required ∷ take 1 ∷ begin 1 ∷ open_fresh_sync
-    ∷ call n Propagation.Nested ∷ savepoint 1 ∷ open_point ∷ mark ∷ end_rollback ∷ back_to 1 ∷ release 1 ∷ leave n
-    ∷ end_commit ∷ commit 1 1 ∷ give 1 ∷ leave m ∷ [])
+pub a_marked_nested_scope_goes_back_and_throws_nothing : Says (calling None (method nested (Stmt.Mark ∷ []))) 0 (
+    m_begins ++ nests n ++ mark ∷ end_rollback ∷ back_to 1 ∷ release 1 ∷ leave n
+    ∷ m_commits)
 unfolding Says
 a_marked_nested_scope_goes_back_and_throws_nothing = refl
 
@@ -76,19 +50,15 @@ a_marked_nested_scope_goes_back_and_throws_nothing = refl
 abbrev pub marked_inside : Scenario
 marked_inside = plainly (
     method required (Stmt.Call p (Some UNEXPECTED_ROLLBACK_EXCEPTION) ∷ [])
-    ∷ method required (Stmt.Throw RUNTIME_EXCEPTION ∷ [])
+    ∷ failing
     ∷ method nested (Stmt.Call n (Some RUNTIME_EXCEPTION) ∷ [])
     ∷ [])
 
 pub a_return_to_a_savepoint_clears_the_mark : Says marked_inside 0 (
-    top 0 ∷ call m Propagation.Required ∷ take 1 ∷ begin 1 ∷ open_fresh_sync
-    ∷ call p Propagation.Nested ∷ savepoint 1 ∷ open_point
-    ∷ call n Propagation.Required ∷ open_join ∷ throw RUNTIME_EXCEPTION ∷ rules_rollback_by None
-    ∷ end_rollback ∷ mark_global ∷ leave_throws n RUNTIME_EXCEPTION
-    ∷ catch RUNTIME_EXCEPTION
-    ∷ end_unexpected ∷ back_to 1 ∷ release 1 ∷ throw UNEXPECTED_ROLLBACK_EXCEPTION ∷ leave_throws p UNEXPECTED_ROLLBACK_EXCEPTION
-    ∷ catch UNEXPECTED_ROLLBACK_EXCEPTION
-    ∷ end_commit ∷ commit 1 1 ∷ give 1 ∷ leave m ∷ [])
+    m_begins ++ nests p
+    ++ n_joins_and_marks ++ catch RUNTIME_EXCEPTION
+    ∷ end_unexpected ∷ back_to 1 ∷ release 1 ∷ throws_out UNEXPECTED_ROLLBACK_EXCEPTION p ++ catch UNEXPECTED_ROLLBACK_EXCEPTION
+    ∷ m_commits)
 unfolding Says
 a_return_to_a_savepoint_clears_the_mark = refl
 
@@ -96,68 +66,48 @@ a_return_to_a_savepoint_clears_the_mark = refl
 abbrev marked_and_failed_inside : Scenario
 marked_and_failed_inside = plainly (
     method required (Stmt.Call p (Some RUNTIME_EXCEPTION) ∷ [])
-    ∷ method required (Stmt.Throw RUNTIME_EXCEPTION ∷ [])
+    ∷ failing
     ∷ method nested (Stmt.Call n None ∷ [])
     ∷ [])
 
 pub a_rollback_to_a_savepoint_clears_the_mark_too : Says marked_and_failed_inside 0 (
-    top 0 ∷ call m Propagation.Required ∷ take 1 ∷ begin 1 ∷ open_fresh_sync
-    ∷ call p Propagation.Nested ∷ savepoint 1 ∷ open_point
-    ∷ call n Propagation.Required ∷ open_join ∷ throw RUNTIME_EXCEPTION ∷ rules_rollback_by None
-    ∷ end_rollback ∷ mark_global ∷ leave_throws n RUNTIME_EXCEPTION
-    ∷ rules_rollback_by None ∷ end_rollback ∷ back_to 1 ∷ release 1 ∷ leave_throws p RUNTIME_EXCEPTION
-    ∷ catch RUNTIME_EXCEPTION
-    ∷ end_commit ∷ commit 1 1 ∷ give 1 ∷ leave m ∷ [])
+    m_begins ++ nests p
+    ++ n_joins_and_marks ++ goes_back_by RUNTIME_EXCEPTION p ++ catch RUNTIME_EXCEPTION
+    ∷ m_commits)
 unfolding Says
 a_rollback_to_a_savepoint_clears_the_mark_too = refl
 
 -- a nested scope is to open after the transaction was marked
 abbrev nested_under_the_mark : Scenario
-nested_under_the_mark = plainly (
-    method required (Stmt.Call n (Some RUNTIME_EXCEPTION) ∷ Stmt.Call p (Some CANNOT_CREATE_TRANSACTION_EXCEPTION) ∷ [])
-    ∷ method required (Stmt.Throw RUNTIME_EXCEPTION ∷ [])
-    ∷ method nested []
-    ∷ [])
+nested_under_the_mark = marked_and_then (Some CANNOT_CREATE_TRANSACTION_EXCEPTION) (method nested [])
 
 pub no_savepoint_is_made_under_the_mark : Says nested_under_the_mark 0 (
-    top 0 ∷ call m Propagation.Required ∷ take 1 ∷ begin 1 ∷ open_fresh_sync
-    ∷ call n Propagation.Required ∷ open_join ∷ throw RUNTIME_EXCEPTION ∷ rules_rollback_by None
-    ∷ end_rollback ∷ mark_global ∷ leave_throws n RUNTIME_EXCEPTION
-    ∷ catch RUNTIME_EXCEPTION
-    ∷ call p Propagation.Nested ∷ throw CANNOT_CREATE_TRANSACTION_EXCEPTION ∷ leave_throws p CANNOT_CREATE_TRANSACTION_EXCEPTION
-    ∷ catch CANNOT_CREATE_TRANSACTION_EXCEPTION
-    ∷ end_unexpected ∷ rollback 1 ∷ throw UNEXPECTED_ROLLBACK_EXCEPTION ∷ give 1 ∷ leave_throws m UNEXPECTED_ROLLBACK_EXCEPTION ∷ [])
+    m_begins ++ n_joins_and_marks ++ catch RUNTIME_EXCEPTION
+    ∷ call p Propagation.Nested ∷ throws_out CANNOT_CREATE_TRANSACTION_EXCEPTION p ++ catch CANNOT_CREATE_TRANSACTION_EXCEPTION
+    ∷ m_ends_unexpectedly)
 unfolding Says
 no_savepoint_is_made_under_the_mark = refl
 
 -- ---- where the manager makes no savepoints, and where there is no transaction
 
 pub nested_scopes_are_refused_where_the_manager_allows_none : Says (record nested_failure { settings = settings 8 SyncMode.Always false }) 0 (
-    top 0 ∷ call m Propagation.Required ∷ take 1 ∷ begin 1 ∷ open_fresh_sync
-    ∷ call n Propagation.Nested ∷ throw NESTED_TRANSACTION_NOT_SUPPORTED_EXCEPTION ∷ leave_throws n NESTED_TRANSACTION_NOT_SUPPORTED_EXCEPTION
-    ∷ catch NESTED_TRANSACTION_NOT_SUPPORTED_EXCEPTION
-    ∷ end_commit ∷ commit 1 1 ∷ give 1 ∷ leave m ∷ [])
+    m_begins ++ call n Propagation.Nested ∷ throws_out NESTED_TRANSACTION_NOT_SUPPORTED_EXCEPTION n
+    ++ catch NESTED_TRANSACTION_NOT_SUPPORTED_EXCEPTION
+    ∷ m_commits)
 unfolding Says
 nested_scopes_are_refused_where_the_manager_allows_none = refl
 
 -- under the mark the refusal is the same
 pub nested_scopes_are_refused_so_under_the_mark_too :
     Says (record nested_under_the_mark { settings = settings 8 SyncMode.Always false }) 0 (
-    top 0 ∷ call m Propagation.Required ∷ take 1 ∷ begin 1 ∷ open_fresh_sync
-    ∷ call n Propagation.Required ∷ open_join ∷ throw RUNTIME_EXCEPTION ∷ rules_rollback_by None
-    ∷ end_rollback ∷ mark_global ∷ leave_throws n RUNTIME_EXCEPTION
-    ∷ catch RUNTIME_EXCEPTION
-    ∷ call p Propagation.Nested ∷ throw NESTED_TRANSACTION_NOT_SUPPORTED_EXCEPTION ∷ leave_throws p NESTED_TRANSACTION_NOT_SUPPORTED_EXCEPTION
-    ∷ catch NESTED_TRANSACTION_NOT_SUPPORTED_EXCEPTION
-    ∷ end_unexpected ∷ rollback 1 ∷ throw UNEXPECTED_ROLLBACK_EXCEPTION ∷ give 1 ∷ leave_throws m UNEXPECTED_ROLLBACK_EXCEPTION ∷ [])
+    m_begins ++ n_joins_and_marks ++ catch RUNTIME_EXCEPTION
+    ∷ call p Propagation.Nested ∷ throws_out NESTED_TRANSACTION_NOT_SUPPORTED_EXCEPTION p ++ catch NESTED_TRANSACTION_NOT_SUPPORTED_EXCEPTION
+    ∷ m_ends_unexpectedly)
 unfolding Says
 nested_scopes_are_refused_so_under_the_mark_too = refl
 
-abbrev nested_alone : Scenario
-nested_alone = plainly (method nested [] ∷ [])
-
-pub a_nested_scope_without_a_transaction_is_fresh : Says nested_alone 0 (
-    top 0 ∷ call m Propagation.Nested ∷ take 1 ∷ begin 1 ∷ open_fresh_sync ∷ end_commit ∷ commit 1 1 ∷ give 1 ∷ leave m ∷ [])
+pub a_nested_scope_without_a_transaction_is_fresh : Says (plainly (method nested [] ∷ [])) 0 (
+    top 0 ∷ call m Propagation.Nested ∷ take 1 ∷ begin 1 ∷ open_fresh_sync ∷ m_commits)
 unfolding Says
 a_nested_scope_without_a_transaction_is_fresh = refl
 
@@ -172,11 +122,8 @@ rivals_over_a_savepoint = record (plainly (
     ∷ [])) { clients = (m ∷ []) ∷ (p ∷ []) ∷ [] }
 
 pub a_row_is_absent_again_after_the_return : Says rivals_over_a_savepoint 0 (
-    top 0 ∷ call m Propagation.Required ∷ take 1 ∷ begin 1 ∷ open_fresh_sync
-    ∷ call n Propagation.Nested ∷ savepoint 1 ∷ open_point ∷ write 1 k (pos 5) Answer.Done ∷ throw RUNTIME_EXCEPTION ∷ rules_rollback_by None
-    ∷ end_rollback ∷ back_to 1 ∷ release 1 ∷ leave_throws n RUNTIME_EXCEPTION
-    ∷ catch RUNTIME_EXCEPTION
-    ∷ read 1 k Answer.Absent ∷ end_commit ∷ commit 1 1 ∷ give 1 ∷ leave m ∷ [])
+    m_begins ++ nests n ++ write 1 k (pos 5) Answer.Done ∷ throw RUNTIME_EXCEPTION ∷ goes_back_by RUNTIME_EXCEPTION n ++ catch RUNTIME_EXCEPTION
+    ∷ read 1 k Answer.Absent ∷ m_commits)
 unfolding Says
 a_row_is_absent_again_after_the_return = refl
 
@@ -188,18 +135,12 @@ unfolding Says
 a_lock_outlives_the_savepoint = refl
 
 -- a nested scope registers, and goes back
-abbrev registered_inside : Scenario
-registered_inside = record (plainly (
-    method required (Stmt.Call n (Some RUNTIME_EXCEPTION) ∷ [])
-    ∷ method nested (Stmt.Register (sync_no 0) ∷ Stmt.Throw RUNTIME_EXCEPTION ∷ [])
-    ∷ [])) { syncs = sync last_of_all ∷ [] }
-
-pub a_registration_outlives_the_savepoint : Says registered_inside 0 (
-    top 0 ∷ call m Propagation.Required ∷ take 1 ∷ begin 1 ∷ open_fresh_sync
-    ∷ call n Propagation.Nested ∷ savepoint 1 ∷ open_point ∷ register s ∷ throw RUNTIME_EXCEPTION ∷ rules_rollback_by None
-    ∷ end_rollback ∷ back_to 1 ∷ release 1 ∷ leave_throws n RUNTIME_EXCEPTION
-    ∷ catch RUNTIME_EXCEPTION
-    ∷ end_commit ∷ before_commit s ∷ before_completion s ∷ commit 1 1 ∷ after_commit s ∷ after_completion_committed s ∷ give 1 ∷ leave m ∷ [])
+pub a_registration_outlives_the_savepoint :
+    Says (record (calling (Some RUNTIME_EXCEPTION) (method nested (Stmt.Register (sync_no 0) ∷ Stmt.Throw RUNTIME_EXCEPTION ∷ []))) {
+      syncs = sync last_of_all ∷ [];
+    }) 0 (
+    m_begins ++ nests n ++ register s ∷ throw RUNTIME_EXCEPTION ∷ goes_back_by RUNTIME_EXCEPTION n ++ catch RUNTIME_EXCEPTION
+    ∷ m_commits_with s)
 unfolding Says
 a_registration_outlives_the_savepoint = refl
 
@@ -213,12 +154,9 @@ nested_twice = plainly (
     ∷ [])
 
 pub the_innermost_savepoint_is_returned_to_first : Says nested_twice 0 (
-    top 0 ∷ call m Propagation.Required ∷ take 1 ∷ begin 1 ∷ open_fresh_sync
-    ∷ call n Propagation.Nested ∷ savepoint 1 ∷ open_point
-    ∷ call p Propagation.Nested ∷ savepoint 1 ∷ open_point ∷ throw RUNTIME_EXCEPTION ∷ rules_rollback_by None
-    ∷ end_rollback ∷ back_to 1 ∷ release 1 ∷ leave_throws p RUNTIME_EXCEPTION
-    ∷ catch RUNTIME_EXCEPTION
+    m_begins ++ nests n
+    ++ nests p ++ throw RUNTIME_EXCEPTION ∷ goes_back_by RUNTIME_EXCEPTION p ++ catch RUNTIME_EXCEPTION
     ∷ write 1 a (pos 1) Answer.Done ∷ end_commit ∷ release 1 ∷ leave n
-    ∷ end_commit ∷ commit 1 1 ∷ give 1 ∷ leave m ∷ [])
+    ∷ m_commits)
 unfolding Says
 the_innermost_savepoint_is_returned_to_first = refl

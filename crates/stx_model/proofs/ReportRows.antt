@@ -1,6 +1,6 @@
 -- Worked rows whole: the histories are legal entry by entry, each client's lines are its script over its own notes, and
 -- this is the printed report.
-use Rattle.std.proofs.Common.{◌≡◌, ℕ, zero, suc, ◌<◌, ℤ, pos, List, [], ◌∷◌, map, Option, Some, None, refl, sym, ap, subst, arith, lit<}
+use Rattle.std.proofs.Common.{◌≡◌, ℕ, zero, suc, ◌<◌, ℤ, pos, List, [], ◌∷◌, map, Option, Some, None, refl, sym, ap, subst, arith}
 use Rattle.std.specs.Prelude.{codes, slice_get}
 use Rattle.std.specs.List.{filter_map}
 use Rattle.std.proofs.lemmas.Cmp.{nat_cmp_total}
@@ -26,6 +26,7 @@ use Rattle.stx_model.specs.Meanings.{state_of, stop_of}
 use Rattle.stx_model.specs.Brackets.{IsBalanced, connection_bracket}
 use Rattle.stx_model.specs.Faithful.{Faithful, IsPlayedOut}
 use Rattle.stx_model.proofs.SerialLaw.{journal_serial}
+use Rattle.stx_model.proofs.Legality.{pool_legal, store_legal}
 use Rattle.stx_model.proofs.Small.{a, k, pool_note, store_note, Says}
 use Rattle.stx_model.proofs.FlatRows.{writes_and_reads, written_and_read, rivals, written, refused_beside, a_transaction_writes_reads_and_commits}
 use Rattle.stx_model.proofs.ShopRow.{shop, placed}
@@ -61,20 +62,11 @@ one_method_printed = simp (get-insert {X = ℤ} nat_cmp_total, get-empty {X = �
 
 pub one_method_legal : StoreLegal 1 (made_with []) (store_alone written_and_read)
 unfolding store_reply store_proper
-one_method_legal = (
-  record { client = lit< tt; proper = refl; reply = refl },
-  (
-    record { client = lit< tt; proper = refl; reply = refl },
-    (
-      record { client = lit< tt; proper = refl; reply = rw (get-insert nat_cmp_total) refl },
-      (record { client = lit< tt; proper = refl; reply = refl }, tt),
-    ),
-  ),
-)
+one_method_legal = store_legal 1 (made_with []) (store_alone written_and_read) refl (simp (get-insert {X = ℤ} nat_cmp_total))
 
 pub one_method_pool_legal : PoolLegal 1 8 (pool_alone written_and_read)
 unfolding pool_reply pool_proper
-one_method_pool_legal = (record { client = lit< tt; proper = refl; reply = refl }, (record { client = lit< tt; proper = refl; reply = refl }, tt))
+one_method_pool_legal = pool_legal 1 8 (pool_alone written_and_read) refl refl
 
 -- the run is faithful: its two histories are legal, its lines are its script, its journal is serial, and all is back
 pub one_method_faithful : Faithful writes_and_reads (alone written_and_read)
@@ -109,12 +101,9 @@ one_method_faithful = record {
 -- ---- a row that another client's transaction holds is busy, and is free once that has committed
 
 abbrev busy_rival : List StoreEntry
-busy_rival = by 0 (StoreNote.Begin 1)
-    ∷ by 0 (StoreNote.Access 1 (Access.Write a (pos 1)) Answer.Done)
-    ∷ by 1 (StoreNote.Begin 2)
-    ∷ by 1 (StoreNote.Access 2 (Access.Read a) (Answer.Busy 1))
-    ∷ by 0 (StoreNote.Commit 1 1)
-    ∷ by 1 (StoreNote.Rollback 2)
+busy_rival = by 0 (StoreNote.Begin 1) ∷ by 0 (StoreNote.Access 1 (Access.Write a (pos 1)) Answer.Done)
+    ∷ by 1 (StoreNote.Begin 2) ∷ by 1 (StoreNote.Access 2 (Access.Read a) (Answer.Busy 1))
+    ∷ by 0 (StoreNote.Commit 1 1) ∷ by 1 (StoreNote.Rollback 2)
     ∷ []
 
 -- each takes a connection while the other has one out
@@ -123,35 +112,11 @@ side_by_side = pool_by 0 (PoolNote.Taken 1) ∷ pool_by 1 (PoolNote.Taken 2) ∷
 
 pub side_by_side_legal : PoolLegal 2 8 side_by_side
 unfolding pool_reply pool_proper
-side_by_side_legal = (
-  record { client = lit< tt; proper = refl; reply = refl },
-  (
-    record { client = lit< tt; proper = refl; reply = refl },
-    (
-      record { client = lit< tt; proper = refl; reply = refl },
-      (record { client = lit< tt; proper = refl; reply = refl }, tt),
-    ),
-  ),
-)
+side_by_side_legal = pool_legal 2 8 side_by_side refl refl
 
 pub busy_rival_legal : StoreLegal 2 (made_with []) busy_rival
 unfolding store_reply store_proper
-busy_rival_legal = (
-  record { client = lit< tt; proper = refl; reply = refl },
-  (
-    record { client = lit< tt; proper = refl; reply = refl },
-    (
-      record { client = lit< tt; proper = refl; reply = refl },
-      (
-        record { client = lit< tt; proper = refl; reply = refl },
-        (
-          record { client = lit< tt; proper = refl; reply = refl },
-          (record { client = lit< tt; proper = refl; reply = refl }, tt),
-        ),
-      ),
-    ),
-  ),
-)
+busy_rival_legal = store_legal 2 (made_with []) busy_rival refl refl
 
 -- each client's lines have the places of its own entries
 abbrev busy_text : List ℕ
@@ -165,13 +130,13 @@ unfolding printed clients_text lines_text journal_text line_words digits
 busy_rival_printed = simp (get-insert {X = ℤ} nat_cmp_total, get-empty {X = ℤ} nat_cmp)
 
 abbrev later_rival : List StoreEntry
-later_rival = by 0 (StoreNote.Begin 1)
-    ∷ by 0 (StoreNote.Access 1 (Access.Write a (pos 1)) Answer.Done)
-    ∷ by 0 (StoreNote.Commit 1 1)
-    ∷ by 1 (StoreNote.Begin 2)
-    ∷ by 1 (StoreNote.Access 2 (Access.Read a) (Answer.Found (pos 1)))
-    ∷ by 1 (StoreNote.Commit 2 2)
+later_rival = by 0 (StoreNote.Begin 1) ∷ by 0 (StoreNote.Access 1 (Access.Write a (pos 1)) Answer.Done) ∷ by 0 (StoreNote.Commit 1 1)
+    ∷ by 1 (StoreNote.Begin 2) ∷ by 1 (StoreNote.Access 2 (Access.Read a) (Answer.Found (pos 1))) ∷ by 1 (StoreNote.Commit 2 2)
     ∷ []
+
+pub later_rival_legal : StoreLegal 2 (made_with []) later_rival
+unfolding store_reply store_proper
+later_rival_legal = store_legal 2 (made_with []) later_rival refl (simp (get-insert {X = ℤ} nat_cmp_total))
 
 -- a connection that was given is taken again
 abbrev in_turn : List PoolEntry
@@ -179,35 +144,7 @@ in_turn = pool_by 0 (PoolNote.Taken 1) ∷ pool_by 0 (PoolNote.Given 1) ∷ pool
 
 pub in_turn_legal : PoolLegal 2 8 in_turn
 unfolding pool_reply pool_proper
-in_turn_legal = (
-  record { client = lit< tt; proper = refl; reply = refl },
-  (
-    record { client = lit< tt; proper = refl; reply = refl },
-    (
-      record { client = lit< tt; proper = refl; reply = refl },
-      (record { client = lit< tt; proper = refl; reply = refl }, tt),
-    ),
-  ),
-)
-
-pub later_rival_legal : StoreLegal 2 (made_with []) later_rival
-unfolding store_reply store_proper
-later_rival_legal = (
-  record { client = lit< tt; proper = refl; reply = refl },
-  (
-    record { client = lit< tt; proper = refl; reply = refl },
-    (
-      record { client = lit< tt; proper = refl; reply = refl },
-      (
-        record { client = lit< tt; proper = refl; reply = refl },
-        (
-          record { client = lit< tt; proper = refl; reply = rw (get-insert nat_cmp_total) refl },
-          (record { client = lit< tt; proper = refl; reply = refl }, tt),
-        ),
-      ),
-    ),
-  ),
-)
+in_turn_legal = pool_legal 2 8 in_turn refl refl
 
 -- ---- a savepoint keeps its locks: client 1 is busy at the row after client 0 has gone back
 abbrev pub kept_locks : List StoreEntry
@@ -223,34 +160,7 @@ kept_locks = by 0 (StoreNote.Begin 1) ∷ by 0 (StoreNote.Point 1)
 
 pub kept_locks_legal : StoreLegal 2 (made_with []) kept_locks
 unfolding store_reply store_proper
-kept_locks_legal = (
-  record { client = lit< tt; proper = refl; reply = refl },
-  (
-    record { client = lit< tt; proper = refl; reply = refl },
-    (
-      record { client = lit< tt; proper = refl; reply = refl },
-      (
-        record { client = lit< tt; proper = refl; reply = refl },
-        (
-          record { client = lit< tt; proper = refl; reply = refl },
-          (
-            record { client = lit< tt; proper = refl; reply = refl },
-            (
-              record { client = lit< tt; proper = refl; reply = refl },
-              (
-                record { client = lit< tt; proper = refl; reply = rw (get-empty {X = ℤ} nat_cmp 1) refl },
-                (
-                  record { client = lit< tt; proper = refl; reply = refl },
-                  (record { client = lit< tt; proper = refl; reply = refl }, tt),
-                ),
-              ),
-            ),
-          ),
-        ),
-      ),
-    ),
-  ),
-)
+kept_locks_legal = store_legal 2 (made_with []) kept_locks refl (simp (get-empty {X = ℤ} nat_cmp))
 
 -- its one commit leaves no row
 pub kept_locks_rows : committed_rows [] kept_locks ≡ first_rows []

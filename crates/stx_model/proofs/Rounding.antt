@@ -211,17 +211,13 @@ module _ (M : Measure) (S : Scenario) (calls : Calls) (of : MethodNo → Cost) w
 
     pub callback_statement_costs : (s : Stmt) → Costs M o (M.weigh (callback_cost of s)) (callback_statement S calls s)
     unfolding callback_statement
-    callback_statement_costs (Stmt.Read k) st = row st (Stmt.Read k)
-    callback_statement_costs (Stmt.Write k v) st = row st (Stmt.Write k v)
-    callback_statement_costs (Stmt.Erase k) st = row st (Stmt.Erase k)
-    callback_statement_costs (Stmt.Add k n) st = row st (Stmt.Add k n)
-    callback_statement_costs (Stmt.Need k n) st = row st (Stmt.Need k n)
     callback_statement_costs (Stmt.Throw x) st = said_last M o (Line.Throw x) (M.weigh one) (Some x) st (omega (arith, M.pays_call))
     callback_statement_costs (Stmt.Call m catch) st = caught_call Proxied m catch st
     callback_statement_costs (Stmt.This m catch) st = broken M o (M.weigh one) st
     callback_statement_costs Stmt.Mark st = broken M o (M.weigh one) st
     callback_statement_costs (Stmt.Publish e) st = broken M o (M.weigh one) st
     callback_statement_costs (Stmt.Register s) st = broken M o (M.weigh one) st
+    callback_statement_costs s st = row st s
 
     -- a piece of so much after one of so much
     both_cost : (n m k : ℕ) (first second : Meaning) → n + m ≤ k → Costs M o n first → Costs M o m second → Costs M o k (λ st. and_then (first st) second)

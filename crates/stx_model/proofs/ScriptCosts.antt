@@ -135,13 +135,7 @@ module _ (M : Measure) (S : Scenario) (calls : Calls) (of : MethodNo → Cost) (
       (omega (arith, M.pays_registration, M.weighs_both one_registered (callbacks_cost of (callbacks_of S s)))) st.context.syncs st refl
   statement_costs (Stmt.Publish e) st = publishes_costs e st
   statement_costs (Stmt.This m catch) st = caught_call M S calls of called o owed Direct m catch st
-  statement_costs (Stmt.Read k) st = callback_statement_costs M S calls of called o owed (Stmt.Read k) st
-  statement_costs (Stmt.Write k v) st = callback_statement_costs M S calls of called o owed (Stmt.Write k v) st
-  statement_costs (Stmt.Erase k) st = callback_statement_costs M S calls of called o owed (Stmt.Erase k) st
-  statement_costs (Stmt.Add k n) st = callback_statement_costs M S calls of called o owed (Stmt.Add k n) st
-  statement_costs (Stmt.Need k n) st = callback_statement_costs M S calls of called o owed (Stmt.Need k n) st
-  statement_costs (Stmt.Call m catch) st = callback_statement_costs M S calls of called o owed (Stmt.Call m catch) st
-  statement_costs (Stmt.Throw x) st = callback_statement_costs M S calls of called o owed (Stmt.Throw x) st
+  statement_costs s st = callback_statement_costs M S calls of called o owed s st
 
   body_costs : (statements : List Stmt) → Costs M o (statements_size M S of statements) (body S calls statements)
   unfolding body

@@ -1,5 +1,5 @@
 -- Why locks are kept to the end: a store whose return to a savepoint frees the locks taken since is not serial.
-use Rattle.std.proofs.Common.{◌≡◌, ℕ, ℤ, pos, ◌<◌, ◌&&◌, ◌==◌, not, if◌then◌else◌, List, [], ◌∷◌, Option, Some, None, refl, arith, IsTrue, filter, lit<}
+use Rattle.std.proofs.Common.{◌≡◌, ℕ, ℤ, pos, ◌<◌, ◌&&◌, ◌==◌, not, if◌then◌else◌, List, [], ◌∷◌, Option, Some, None, refl, arith, IsTrue, filter}
 use Rattle.std.specs.List.{fold}
 use Rattle.std.specs.FinMap.{get-insert}
 use Rattle.std.proofs.lemmas.Cmp.{nat_cmp_total}
@@ -16,6 +16,7 @@ use Rattle.stx_base.specs.Stores.{live, is_busy, is_caller, smallest, busy_or, w
 use Rattle.stx_base.specs.Legal.{LegalFrom, StoreLegal}
 use Rattle.stx_base.specs.Serial.{Serial}
 use Rattle.stx_model.proofs.SerialLaw.{journal_serial}
+use Rattle.stx_model.proofs.Legality.{legal_if}
 use Rattle.stx_model.proofs.Small.{a}
 use Rattle.stx_model.proofs.ReportRows.{by, made_with}
 
@@ -82,28 +83,9 @@ read_twice = by 0 (StoreNote.Begin 1) ∷ by 0 (StoreNote.Point 1)
 
 pub read_twice_fits : LegalFrom (FreeingFits 2 (made_with (pos 7 ∷ []))) [] read_twice
 unfolding freeing_reply store_reply store_proper
-read_twice_fits = (
-  record { client = lit< tt; proper = refl; reply = refl },
-  (
-    record { client = lit< tt; proper = refl; reply = refl },
-    (
-      record { client = lit< tt; proper = refl; reply = simp (get-insert {X = ℤ} nat_cmp_total) },
-      (
-        record { client = lit< tt; proper = refl; reply = refl },
-        (
-          record { client = lit< tt; proper = refl; reply = refl },
-          (
-            record { client = lit< tt; proper = refl; reply = simp (get-insert {X = ℤ} nat_cmp_total) },
-            (
-              record { client = lit< tt; proper = refl; reply = refl },
-              (record { client = lit< tt; proper = refl; reply = refl }, tt),
-            ),
-          ),
-        ),
-      ),
-    ),
-  ),
-)
+read_twice_fits =
+    legal_if 2 (λ e. e.client) _ _ (λ e. Some e.note) (FreeingFits 2 (made_with (pos 7 ∷ [])))
+    (λ before e below proper reply. record { client = below; proper = proper; reply = reply }) [] read_twice refl (simp (get-insert {X = ℤ} nat_cmp_total))
 
 -- over no rows at all does its work, run alone, find 7 and then 9
 never_alone : (rows : RowMap) → found_alone rows (work (store_notes read_twice) 1) ≡ answers (work (store_notes read_twice) 1) → ⊥

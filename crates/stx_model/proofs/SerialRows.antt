@@ -1,5 +1,5 @@
 -- Worked rows of the serial law: a return to a savepoint, rivals that were refused or rolled back, and an own statement.
-use Rattle.std.proofs.Common.{◌≡◌, ℤ, zero, suc, pos, List, [], ◌∷◌, Option, Some, None, refl, subst, lit<}
+use Rattle.std.proofs.Common.{◌≡◌, ℤ, zero, suc, pos, List, [], ◌∷◌, Option, Some, None, refl, subst}
 use Rattle.std.proofs.lemmas.Cmp.{nat_cmp_total}
 use Rattle.std.specs.Ordering.{nat_cmp}
 use Rattle.std.specs.FinMap.{get-insert, get-empty}
@@ -12,6 +12,7 @@ use Rattle.stx_base.specs.Stores.{Transaction, journal, store_reply, store_prope
 use Rattle.stx_base.specs.Legal.{StoreLegal}
 use Rattle.stx_base.specs.Serial.{Serial}
 use Rattle.stx_model.proofs.SerialLaw.{journal_serial}
+use Rattle.stx_model.proofs.Legality.{store_legal}
 use Rattle.stx_model.proofs.Small.{a, k}
 use Rattle.stx_model.proofs.ReportRows.{by, made_with, kept_locks}
 
@@ -64,52 +65,7 @@ rival = by 0 (StoreNote.Begin 1) ∷ by 1 (StoreNote.Begin 2)
 
 rival_legal : StoreLegal 2 (made_with (pos 7 ∷ pos 8 ∷ [])) rival
 unfolding store_reply store_proper
-rival_legal = (
-  record { client = lit< tt; proper = refl; reply = refl },
-  (
-    record { client = lit< tt; proper = refl; reply = refl },
-    (
-      record { client = lit< tt; proper = refl; reply = refl },
-      (
-        record { client = lit< tt; proper = refl; reply = refl },
-        (
-          record { client = lit< tt; proper = refl; reply = refl },
-          (
-            record { client = lit< tt; proper = refl; reply = refl },
-            (
-              record { client = lit< tt; proper = refl; reply = refl },
-              (
-                record { client = lit< tt; proper = refl; reply = refl },
-                (
-                  record { client = lit< tt; proper = refl; reply = refl },
-                  (
-                    record { client = lit< tt; proper = refl; reply = simp (get-insert {X = ℤ} nat_cmp_total) },
-                    (
-                      record { client = lit< tt; proper = refl; reply = simp (get-insert {X = ℤ} nat_cmp_total) },
-                      (
-                        record { client = lit< tt; proper = refl; reply = refl },
-                        (
-                          record { client = lit< tt; proper = refl; reply = refl },
-                          (
-                            record { client = lit< tt; proper = refl; reply = refl },
-                            (
-                              record { client = lit< tt; proper = refl; reply = simp (get-insert {X = ℤ} nat_cmp_total) },
-                              tt,
-                            ),
-                          ),
-                        ),
-                      ),
-                    ),
-                  ),
-                ),
-              ),
-            ),
-          ),
-        ),
-      ),
-    ),
-  ),
-)
+rival_legal = store_legal 2 (made_with (pos 7 ∷ pos 8 ∷ [])) rival refl (simp (get-insert {X = ℤ} nat_cmp_total))
 
 -- the transaction that commits beside it
 abbrev survivor : Transaction

@@ -2,6 +2,8 @@
 use Rattle.std.proofs.Common.{◌≡◌, ℕ, ℤ, pos, Bool, true, false, List, [], ◌∷◌, Option, Some, None}
 use Rattle.std.specs.Prelude.{codes}
 use Rattle.std.specs.List.{filter_map}
+use Rattle.stx_scenario.specs.declared.classes.TheConstants.{RUNTIME_EXCEPTION}
+use Rattle.stx_scenario.specs.declared.numbers.ClassNo.{ClassNo}
 use Rattle.stx_scenario.specs.declared.numbers.RowNo.{RowNo}
 use Rattle.stx_scenario.specs.declared.numbers.MethodNo.{MethodNo}
 use Rattle.stx_scenario.specs.declared.numbers.SyncNo.{SyncNo}
@@ -122,6 +124,10 @@ method tx body = record { bean = record { 0 = 0 }; name = codes "m"; tx = tx; bo
 abbrev pub named : List ℕ → Method → Method
 named name method = record method { name = name }
 
+-- a method whose scope rolls back by default
+abbrev pub failing : Method
+failing = method required (Stmt.Throw RUNTIME_EXCEPTION ∷ [])
+
 -- a synchronisation whose callbacks hold nothing
 abbrev pub sync : ℤ → SyncDecl
 sync order = record { name = codes "s"; order = order; before_commit = []; before_completion = []; after_commit = []; after_completion = [] }
@@ -145,6 +151,18 @@ plainly methods = record {
   listeners = [];
   clients = (m ∷ []) ∷ [];
 }
+
+-- m has a transaction in which it calls n once, which is this method, and catches this
+abbrev pub calling : Option ClassNo → Method → Scenario
+calling catches inner = plainly (method required (Stmt.Call n catches ∷ []) ∷ inner ∷ [])
+
+-- m has a transaction that n marks, which it calls first and catches; then it calls p, which is this method, and catches this
+abbrev pub marked_and_then : Option ClassNo → Method → Scenario
+marked_and_then catches last = plainly (method required (Stmt.Call n (Some RUNTIME_EXCEPTION) ∷ Stmt.Call p catches ∷ []) ∷ failing ∷ last ∷ [])
+
+-- m has a transaction and registers the one synchronisation, which has these callbacks
+abbrev pub registering : SyncDecl → Scenario
+registering callbacks = record (plainly (method required (Stmt.Register (sync_no 0) ∷ []) ∷ [])) { syncs = callbacks ∷ [] }
 
 -- ---- contexts
 

@@ -186,11 +186,6 @@ module _ (S : Scenario) (calls : Calls) (calls_steady : AreSteady calls) where
 
   pub callback_statement_steady : (s : Stmt) → IsSteady (callback_statement S calls s)
   unfolding callback_statement
-  callback_statement_steady (Stmt.Read k) st = row_steady st.context.tx (Stmt.Read k) st
-  callback_statement_steady (Stmt.Write k v) st = row_steady st.context.tx (Stmt.Write k v) st
-  callback_statement_steady (Stmt.Erase k) st = row_steady st.context.tx (Stmt.Erase k) st
-  callback_statement_steady (Stmt.Add k n) st = row_steady st.context.tx (Stmt.Add k n) st
-  callback_statement_steady (Stmt.Need k n) st = row_steady st.context.tx (Stmt.Need k n) st
   callback_statement_steady (Stmt.Throw x) st = throws_steady x st
   callback_statement_steady (Stmt.Call m catch) st =
       finally_steady (calls Proxied m) (caught S catch) (calls_steady Proxied m) (caught_steady S catch) st
@@ -198,6 +193,7 @@ module _ (S : Scenario) (calls : Calls) (calls_steady : AreSteady calls) where
   callback_statement_steady Stmt.Mark st = breaks_steady st
   callback_statement_steady (Stmt.Register r) st = breaks_steady st
   callback_statement_steady (Stmt.Publish e) st = breaks_steady st
+  callback_statement_steady s st = row_steady st.context.tx s st
 
   pub callback_steady : (body : List Stmt) → IsSteady (callback S calls body)
   unfolding callback

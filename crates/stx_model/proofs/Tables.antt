@@ -42,116 +42,70 @@ opened_by settings syncs propagation =
 abbrev openings : Settings → Option (List Registration) → List (List Opening)
 openings settings syncs = map (opened_by settings syncs) propagations
 
--- the cells: a scope of its own, which owns synchronisation or doesn't, and comes after a suspension or not
-abbrev fresh_sync : Opening
-fresh_sync = Opening.Fresh false true
-
-abbrev fresh_sync_apart : Opening
-fresh_sync_apart = Opening.Fresh true true
-
-abbrev fresh : Opening
-fresh = Opening.Fresh false false
-
-abbrev fresh_apart : Opening
-fresh_apart = Opening.Fresh true false
-
-abbrev empty_sync : Opening
-empty_sync = Opening.Empty false true
-
-abbrev empty_sync_apart : Opening
-empty_sync_apart = Opening.Empty true true
-
-abbrev empty : Opening
-empty = Opening.Empty false false
-
-abbrev empty_apart : Opening
-empty_apart = Opening.Empty true false
-
 abbrev join : Opening
 join = Opening.Join
 
-abbrev point : Opening
-point = Opening.Point
-
--- refused: wrong state, no savepoint under the mark, no savepoints at all
-abbrev illegal : Opening
-illegal = Opening.Refuse ILLEGAL_TRANSACTION_STATE_EXCEPTION
+-- without savepoints, and with them where the transaction is marked or isn't
+abbrev no_nested : Opening
+no_nested = Opening.Refuse NESTED_TRANSACTION_NOT_SUPPORTED_EXCEPTION
 
 abbrev no_creation : Opening
 no_creation = Opening.Refuse CANNOT_CREATE_TRANSACTION_EXCEPTION
 
-abbrev no_nested : Opening
-no_nested = Opening.Refuse NESTED_TRANSACTION_NOT_SUPPORTED_EXCEPTION
+abbrev point : Opening
+point = Opening.Point
 
-pub openings_in_the_mode_always : openings (settings 8 SyncMode.Always true) (Some []) ≡
-    -- required
-    (fresh_sync ∷ fresh_sync_apart ∷ join ∷ join ∷ [])
-    -- supports
-    ∷ (empty_sync ∷ empty ∷ join ∷ join ∷ [])
-    -- mandatory
-    ∷ (illegal ∷ illegal ∷ join ∷ join ∷ [])
-    -- requires_new
-    ∷ (fresh_sync ∷ fresh_sync_apart ∷ fresh_sync_apart ∷ fresh_sync_apart ∷ [])
-    -- not_supported
-    ∷ (empty_sync ∷ empty ∷ empty_sync_apart ∷ empty_sync_apart ∷ [])
-    -- never
-    ∷ (empty_sync ∷ empty ∷ illegal ∷ illegal ∷ [])
-    -- nested
-    ∷ (fresh_sync ∷ fresh_sync_apart ∷ point ∷ no_creation ∷ []) ∷ []
-unfolding opening
-openings_in_the_mode_always = refl
-
-pub openings_in_the_mode_actual : openings (settings 8 SyncMode.Actual true) (Some []) ≡
-    -- required
-    (fresh_sync ∷ fresh_sync_apart ∷ join ∷ join ∷ [])
-    -- supports
-    ∷ (empty ∷ empty ∷ join ∷ join ∷ [])
-    -- mandatory
-    ∷ (illegal ∷ illegal ∷ join ∷ join ∷ [])
-    -- requires_new
-    ∷ (fresh_sync ∷ fresh_sync_apart ∷ fresh_sync_apart ∷ fresh_sync_apart ∷ [])
-    -- not_supported
-    ∷ (empty ∷ empty ∷ empty_apart ∷ empty_apart ∷ [])
-    -- never
-    ∷ (empty ∷ empty ∷ illegal ∷ illegal ∷ [])
-    -- nested
-    ∷ (fresh_sync ∷ fresh_sync_apart ∷ point ∷ no_creation ∷ []) ∷ []
-unfolding opening
-openings_in_the_mode_actual = refl
-
-pub openings_in_the_mode_never : openings (settings 8 SyncMode.Never true) None ≡
+-- the table of a manager, by what tells managers apart: whether a fresh scope owns synchronisation, whether an empty one
+-- does that finds none active, and the cells of nested in a live transaction
+abbrev table : Bool → Bool → List Opening → List (List Opening)
+table fresh_owns empty_owns nested_in_live =
     -- required
     (fresh ∷ fresh_apart ∷ join ∷ join ∷ [])
     -- supports
-    ∷ (empty ∷ empty ∷ join ∷ join ∷ [])
+    ∷ (empty ∷ empty_in_active ∷ join ∷ join ∷ [])
     -- mandatory
     ∷ (illegal ∷ illegal ∷ join ∷ join ∷ [])
     -- requires_new
     ∷ (fresh ∷ fresh_apart ∷ fresh_apart ∷ fresh_apart ∷ [])
     -- not_supported
-    ∷ (empty ∷ empty ∷ empty_apart ∷ empty_apart ∷ [])
+    ∷ (empty ∷ empty_in_active ∷ empty_apart ∷ empty_apart ∷ [])
     -- never
-    ∷ (empty ∷ empty ∷ illegal ∷ illegal ∷ [])
+    ∷ (empty ∷ empty_in_active ∷ illegal ∷ illegal ∷ [])
     -- nested
-    ∷ (fresh ∷ fresh_apart ∷ point ∷ no_creation ∷ []) ∷ []
+    ∷ (fresh ∷ fresh_apart ∷ nested_in_live) ∷ []
+  where
+    -- a scope of its own, and one that comes after a suspension
+    fresh : Opening
+    fresh = Opening.Fresh false fresh_owns
+
+    fresh_apart : Opening
+    fresh_apart = Opening.Fresh true fresh_owns
+
+    empty : Opening
+    empty = Opening.Empty false empty_owns
+
+    empty_in_active : Opening
+    empty_in_active = Opening.Empty false false
+
+    empty_apart : Opening
+    empty_apart = Opening.Empty true empty_owns
+
+    illegal : Opening
+    illegal = Opening.Refuse ILLEGAL_TRANSACTION_STATE_EXCEPTION
+
+pub openings_in_the_mode_always : openings (settings 8 SyncMode.Always true) (Some []) ≡ table true true (point ∷ no_creation ∷ [])
+unfolding opening
+openings_in_the_mode_always = refl
+
+pub openings_in_the_mode_actual : openings (settings 8 SyncMode.Actual true) (Some []) ≡ table true false (point ∷ no_creation ∷ [])
+unfolding opening
+openings_in_the_mode_actual = refl
+
+pub openings_in_the_mode_never : openings (settings 8 SyncMode.Never true) None ≡ table false false (point ∷ no_creation ∷ [])
 unfolding opening
 openings_in_the_mode_never = refl
 
-pub openings_without_savepoints : openings (settings 8 SyncMode.Always false) (Some []) ≡
-    -- required
-    (fresh_sync ∷ fresh_sync_apart ∷ join ∷ join ∷ [])
-    -- supports
-    ∷ (empty_sync ∷ empty ∷ join ∷ join ∷ [])
-    -- mandatory
-    ∷ (illegal ∷ illegal ∷ join ∷ join ∷ [])
-    -- requires_new
-    ∷ (fresh_sync ∷ fresh_sync_apart ∷ fresh_sync_apart ∷ fresh_sync_apart ∷ [])
-    -- not_supported
-    ∷ (empty_sync ∷ empty ∷ empty_sync_apart ∷ empty_sync_apart ∷ [])
-    -- never
-    ∷ (empty_sync ∷ empty ∷ illegal ∷ illegal ∷ [])
-    -- nested
-    ∷ (fresh_sync ∷ fresh_sync_apart ∷ no_nested ∷ no_nested ∷ []) ∷ []
+pub openings_without_savepoints : openings (settings 8 SyncMode.Always false) (Some []) ≡ table true true (no_nested ∷ no_nested ∷ [])
 unfolding opening
 openings_without_savepoints = refl
 

@@ -127,60 +127,63 @@ module _ (facts : StoreFacts) (H : List StoreEntry) (owed len capacity count : �
   pub owed-one : (e : StoreEntry) → StoreFits most_clients facts H e → IsTrue (was_owed e.note) → 1 ≤ owed
   owed-one e fits was = some_owed facts H owed len capacity keeps.entries e fits was
 
-  spent : (e : StoreEntry) → StoreFits most_clients facts H e → IsTrue (was_owed e.note) → (items : List StoreEntry) (len' capacity' : ℕ) → items ≡ H ++ e ∷ [] → len' ≡ len + 1 → capacity' ≡ capacity → KeepsStore facts items (owed - 1) len' capacity'
-  spent e fits was items len' capacity' is longer same =
+  spent : (e : StoreEntry) → StoreFits most_clients facts H e → IsTrue (was_owed e.note) → (items : List StoreEntry) (now len' capacity' : ℕ) → items ≡ H ++ e ∷ [] → now ≡ owed - 1 → len' ≡ len + 1 → capacity' ≡ capacity → KeepsStore facts items now len' capacity'
+  spent e fits was items now len' capacity' is paid longer same =
       let one = owed-one e fits was in
-      spent-kept facts H owed len capacity keeps.entries e fits was items (owed - 1) len' capacity' is (omega arith) longer same
+      spent-kept facts H owed len capacity keeps.entries e fits was items now len' capacity' is (omega (arith, paid)) longer same
 
-  pub core-returned : (c t : ℕ) → StoreFits most_clients facts H (entry c (StoreNote.BackTo t)) → (items : List StoreEntry) (len' capacity' : ℕ) (rows' : RowsView)
-      → items ≡ H ++ entry c (StoreNote.BackTo t) ∷ [] → len' ≡ len + 1 → capacity' ≡ capacity → ((k : ℕ) → get rows'.values k ≡ get (put_back_last rows.values (stack_of rows t)) k) → HasStack rows t (option_map emptied (get rows.older t)) rows'
-      → KeepsAll facts items (owed - 1) len' capacity' count locks rows' journal'
-  core-returned c t fits items len' capacity' rows' is longer same values stack =
-      let e = entry c (StoreNote.BackTo t) in
+  -- a note that commits nothing, for whose entry room was kept
+  spent-all : (e : StoreEntry) → StoreFits most_clients facts H e → begun (e.note ∷ []) ≡ [] → commits H e ≡ [] → IsTrue (was_owed e.note)
+      → (items : List StoreEntry) (now len' capacity' : ℕ) (locks' : LockMap) (rows' : RowsView) → items ≡ H ++ e ∷ [] → now ≡ owed - 1 → len' ≡ len + 1 → capacity' ≡ capacity
+      → KeepsRows facts (H ++ e ∷ []) locks' rows' → KeepsAll facts items now len' capacity' count locks' rows' journal'
+  spent-all e fits none uncommitted was items now len' capacity' locks' rows' is paid longer same rows_are =
+      together facts H items e now len' capacity' count locks' rows' journal' is (spent e fits was items now len' capacity' is paid longer same) (counted e none) rows_are
+      (unlisted e journal' fits uncommitted refl) (let room = keeps.state.room in omega (arith, paid))
+
+  pub core-returned : (c t : ℕ) → StoreFits most_clients facts H (entry c (StoreNote.BackTo t)) → (items : List StoreEntry) (now len' capacity' : ℕ) (rows' : RowsView)
+      → items ≡ H ++ entry c (StoreNote.BackTo t) ∷ [] → now ≡ owed - 1 → len' ≡ len + 1 → capacity' ≡ capacity → ((k : ℕ) → get rows'.values k ≡ get (put_back_last rows.values (stack_of rows t)) k) → HasStack rows t (option_map emptied (get rows.older t)) rows'
+      → KeepsAll facts items now len' capacity' count locks rows' journal'
+  core-returned c t fits items now len' capacity' rows' is paid longer same values stack =
       let mine : names t (StoreNote.BackTo t) ≡ true = eq-eqb t t refl in
-      together facts H items e (owed - 1) len' capacity' count locks rows' journal' is (spent e fits refl items len' capacity' is longer same) (counted e refl)
-      (rows-returned facts H locks rows keeps.state.rows_are c t rows' (apart e fits) (alive c t (StoreNote.BackTo t) fits mine refl)
+      spent-all (entry c (StoreNote.BackTo t)) fits refl refl refl items now len' capacity' locks rows' is paid longer same
+      (rows-returned facts H locks rows keeps.state.rows_are c t rows' (apart (entry c (StoreNote.BackTo t)) fits) (alive c t (StoreNote.BackTo t) fits mine refl)
       (pointed-for c t (StoreNote.BackTo t) fits mine refl (can_pointed (savepoints (store_notes_of H c) t) (back_parts (store_notes_of H c) t fits.proper))) values stack)
-      (unlisted e journal' fits refl refl) (let room = keeps.state.room in omega arith)
 
-  pub core-released : (c t : ℕ) → StoreFits most_clients facts H (entry c (StoreNote.Release t)) → (items : List StoreEntry) (len' capacity' : ℕ) (rows' : RowsView)
-      → items ≡ H ++ entry c (StoreNote.Release t) ∷ [] → len' ≡ len + 1 → capacity' ≡ capacity → SameValues rows rows' → HasStack rows t (option_map dropped (get rows.older t)) rows'
-      → KeepsAll facts items (owed - 1) len' capacity' count locks rows' journal'
-  core-released c t fits items len' capacity' rows' is longer same values stack =
-      let e = entry c (StoreNote.Release t) in
+  pub core-released : (c t : ℕ) → StoreFits most_clients facts H (entry c (StoreNote.Release t)) → (items : List StoreEntry) (now len' capacity' : ℕ) (rows' : RowsView)
+      → items ≡ H ++ entry c (StoreNote.Release t) ∷ [] → now ≡ owed - 1 → len' ≡ len + 1 → capacity' ≡ capacity → SameValues rows rows' → HasStack rows t (option_map dropped (get rows.older t)) rows'
+      → KeepsAll facts items now len' capacity' count locks rows' journal'
+  core-released c t fits items now len' capacity' rows' is paid longer same values stack =
       let mine : names t (StoreNote.Release t) ≡ true = eq-eqb t t refl in
-      together facts H items e (owed - 1) len' capacity' count locks rows' journal' is (spent e fits refl items len' capacity' is longer same) (counted e refl)
-      (rows-released facts H locks rows keeps.state.rows_are c t rows' (apart e fits) (alive c t (StoreNote.Release t) fits mine refl)
+      spent-all (entry c (StoreNote.Release t)) fits refl refl refl items now len' capacity' locks rows' is paid longer same
+      (rows-released facts H locks rows keeps.state.rows_are c t rows' (apart (entry c (StoreNote.Release t)) fits) (alive c t (StoreNote.Release t) fits mine refl)
       (pointed-for c t (StoreNote.Release t) fits mine refl (release_parts (store_notes_of H c) t fits.proper)) values stack)
-      (unlisted e journal' fits refl refl) (let room = keeps.state.room in omega arith)
 
-  pub core-undone : (c t : ℕ) → StoreFits most_clients facts H (entry c (StoreNote.Rollback t)) → (items : List StoreEntry) (len' capacity' : ℕ) (locks' : LockMap) (rows' : RowsView)
-      → items ≡ H ++ entry c (StoreNote.Rollback t) ∷ [] → len' ≡ len + 1 → capacity' ≡ capacity → ((k : ℕ) → get locks' k ≡ unless_held_by t (get locks k))
-      → ((k : ℕ) → get rows'.values k ≡ get (put_back_all rows.values (stack_of rows t)) k) → HasStack rows t None rows' → KeepsAll facts items (owed - 1) len' capacity' count locks' rows' journal'
-  core-undone c t fits items len' capacity' locks' rows' is longer same freed values stack =
+  pub core-undone : (c t : ℕ) → StoreFits most_clients facts H (entry c (StoreNote.Rollback t)) → (items : List StoreEntry) (now len' capacity' : ℕ) (locks' : LockMap) (rows' : RowsView)
+      → items ≡ H ++ entry c (StoreNote.Rollback t) ∷ [] → now ≡ owed - 1 → len' ≡ len + 1 → capacity' ≡ capacity → ((k : ℕ) → get locks' k ≡ unless_held_by t (get locks k))
+      → ((k : ℕ) → get rows'.values k ≡ get (put_back_all rows.values (stack_of rows t)) k) → HasStack rows t None rows' → KeepsAll facts items now len' capacity' count locks' rows' journal'
+  core-undone c t fits items now len' capacity' locks' rows' is paid longer same freed values stack =
       let e = entry c (StoreNote.Rollback t) in
-      together facts H items e (owed - 1) len' capacity' count locks' rows' journal' is (spent e fits refl items len' capacity' is longer same) (counted e refl)
+      spent-all e fits refl refl refl items now len' capacity' locks' rows' is paid longer same
       (rows-undone facts H locks rows keeps.state.rows_are c t locks' rows' (apart e fits) (alive c t (StoreNote.Rollback t) fits (eq-eqb t t refl) refl) freed values stack)
-      (unlisted e journal' fits refl refl) (let room = keeps.state.room in omega arith)
 
   -- the number of the next commit
   pub next-number : length journal'.list ≡ length (journal H)
   next-number = ap length keeps.state.journal_is ∙ committed_in-length facts.values H
 
-  pub core-committed : (c t m : ℕ) (changes : List (RowNo × Option ℤ)) → StoreFits most_clients facts H (entry c (StoreNote.Commit t m)) → (items : List StoreEntry) (len' capacity' : ℕ) (locks' : LockMap) (rows' : RowsView) (jn : JournalView)
-      → items ≡ H ++ entry c (StoreNote.Commit t m) ∷ [] → len' ≡ len + 1 → capacity' ≡ capacity → ((k : ℕ) → get locks' k ≡ unless_held_by t (get locks k))
+  pub core-committed : (c t m : ℕ) (changes : List (RowNo × Option ℤ)) → StoreFits most_clients facts H (entry c (StoreNote.Commit t m)) → (items : List StoreEntry) (now len' capacity' : ℕ) (locks' : LockMap) (rows' : RowsView) (jn : JournalView)
+      → items ≡ H ++ entry c (StoreNote.Commit t m) ∷ [] → now ≡ owed - 1 → len' ≡ len + 1 → capacity' ≡ capacity → ((k : ℕ) → get locks' k ≡ unless_held_by t (get locks k))
       → SameValues rows rows' → HasStack rows t None rows' → m ≡ length journal'.list + 1 → changes ≡ net (put_back_all rows.values (stack_of rows t)) rows.values
-      → jn.list ≡ journal'.list ++ record { number = m; client = c; tx = Some t; changes = changes } ∷ [] → journal'.spare ≤ jn.spare + 1 → KeepsAll facts items (owed - 1) len' capacity' count locks' rows' jn
-  core-committed c t m changes fits items len' capacity' locks' rows' jn is longer same freed values stack number changes_are list spare =
+      → jn.list ≡ journal'.list ++ record { number = m; client = c; tx = Some t; changes = changes } ∷ [] → journal'.spare ≤ jn.spare + 1 → KeepsAll facts items now len' capacity' count locks' rows' jn
+  core-committed c t m changes fits items now len' capacity' locks' rows' jn is paid longer same freed values stack number changes_are list spare =
       let e = entry c (StoreNote.Commit t m) in
       let live = alive c t (StoreNote.Commit t m) fits (eq-eqb t t refl) refl in
       let base = committed_rows facts.values H in
-      together facts H items e (owed - 1) len' capacity' count locks' rows' jn is (spent e fits refl items len' capacity' is longer same) (counted e refl)
+      together facts H items e now len' capacity' count locks' rows' jn is (spent e fits refl items now len' capacity' is paid longer same) (counted e refl)
       (rows-committed facts H locks rows keeps.state.rows_are c t m locks' rows' (apart e fits) live freed values stack)
       (list
       ∙ (λ i. keeps.state.journal_is i ++ record { number = (number ∙ ap (λ n. n + 1) next-number) i; client = c; tx = Some t; changes = (changes_are ∙ net-committed facts H locks rows keeps.state.rows_are t live) i } ∷ [])
       ∙ sym (committed_in-push facts.values H e (record { client = c; tx = Some t; work = work (store_notes H) t }) (apart e fits) refl))
-      (let room = keeps.state.room in omega arith)
+      (let room = keeps.state.room in omega (arith, paid))
 
   pub core-auto_busy : (c : ℕ) (a : Access) (r : Answer) → StoreFits most_clients facts H (entry c (StoreNote.Auto a r)) → is_busy r ≡ true → (items : List StoreEntry) (now len' capacity' : ℕ) (jn : JournalView)
       → items ≡ H ++ entry c (StoreNote.Auto a r) ∷ [] → now ≡ owed + 0 → len' + now ≤ capacity' → jn.list ≡ journal'.list → now ≤ jn.spare → KeepsAll facts items now len' capacity' count locks rows jn

@@ -1,5 +1,5 @@
 -- Savepoints, ends and own statements: the locks and the rows stay those of the history.
-use Rattle.std.proofs.Common.{◌≡◌, ◌≢◌, ℕ, ℤ, suc, Bool, true, false, not, ◌&&◌, ◌||◌, ◌==◌, cond, List, [], ◌∷◌, ◌++◌, Option, Some, None, length, map, refl, sym, ap, ◌∙◌, subst, inl, inr, arith, eq-eqb, ne_eqb}
+use Rattle.std.proofs.Common.{◌≡◌, ◌≢◌, ℕ, ℤ, suc, Bool, true, false, not, ◌&&◌, ◌==◌, cond, List, [], ◌∷◌, ◌++◌, Option, Some, None, length, map, refl, sym, ap, ◌∙◌, subst, inl, inr, arith, eq-eqb, ne_eqb}
 use Rattle.std.specs.Option.{option_map, unwrap_or, option_eq}
 use Rattle.std.specs.List.{cons_option}
 use Rattle.std.specs.FinMap.{get, empty, get-empty}
@@ -15,7 +15,7 @@ use Rattle.stx_base.specs.declared.history.StoreEntry.{StoreEntry}
 use Rattle.stx_base.specs.Alone.{RowMap, row_of, after, net, without_innermost}
 use Rattle.stx_base.specs.Histories.{store_notes}
 use Rattle.stx_base.specs.Stores.{is_live, is_busy, pointed, savepoints, work, with_return, can_go_back, is_pointed, committed_rows, after_all, Transaction}
-use Rattle.stx_base.proofs.HistoryLaws.{savepoints-push}
+use Rattle.stx_base.proofs.HistoryLaws.{savepoints-push, or-false}
 use Rattle.stx_journal.proofs.RowChanges.{change_to, net_is, net-same, unchanged}
 use Rattle.stx_locks.specs.Locks.{LockMap, unless_held_by}
 use Rattle.stx_rows.specs.Rows.{RowsView, change_to as row_change, dropped, emptied, put_back_last, put_back_all, stack_of, some_stack, HasStack, SameValues}
@@ -88,10 +88,6 @@ module _ (facts : StoreFacts) (H : List StoreEntry) (locks : LockMap) (rows : Ro
       n : StoreNote
       n = StoreNote.Point t
 
-      or-false : (b : Bool) → (b || false) ≡ b
-      or-false true = refl
-      or-false false = refl
-
       points : pointed t (savepoints notes t) (StoreNote.Point t) ≡ false ∷ savepoints notes t
       points = ap (λ b. cond b (false ∷ savepoints notes t) (savepoints notes t)) (eq-eqb t t refl)
 
@@ -124,10 +120,6 @@ module _ (facts : StoreFacts) (H : List StoreEntry) (locks : LockMap) (rows : Ro
     where
       n : StoreNote
       n = StoreNote.BackTo t
-
-      or-false : (b : Bool) → (b || false) ≡ b
-      or-false true = refl
-      or-false false = refl
 
       points : length (pointed t (savepoints notes t) (StoreNote.BackTo t)) ≡ length (savepoints notes t)
       points = ap (λ b. length (cond b (with_return (savepoints notes t)) (savepoints notes t))) (eq-eqb t t refl) ∙ length_returned (savepoints notes t)
@@ -168,10 +160,6 @@ module _ (facts : StoreFacts) (H : List StoreEntry) (locks : LockMap) (rows : Ro
     where
       n : StoreNote
       n = StoreNote.Release t
-
-      or-false : (b : Bool) → (b || false) ≡ b
-      or-false true = refl
-      or-false false = refl
 
       shorter : (m : ℕ) (h g : Option (Option ℤ)) (s : OlderStack) → length (h ∷ g ∷ s) ≡ suc (suc m) → suc (length s) ≡ suc m
       shorter m h g s is = omega (arith, is)

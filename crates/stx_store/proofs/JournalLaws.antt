@@ -1,7 +1,8 @@
 -- The journal and the committed rows, entry by entry.
-use Rattle.std.proofs.Common.{◌≡◌, ℕ, ℤ, suc, ◌+◌, Bool, true, false, not, ◌&&◌, ◌||◌, List, [], ◌∷◌, ◌++◌, Some, length, filter_map, refl, sym, ap, ◌∙◌, append-nil, arith, eq-eqb}
+use Rattle.std.proofs.Common.{◌≡◌, ℕ, ℤ, suc, ◌+◌, Bool, true, false, not, ◌&&◌, List, [], ◌∷◌, ◌++◌, Some, length, filter_map, refl, sym, ap, ◌∙◌, append-nil, arith, eq-eqb}
+use Rattle.std.proofs.Math.Bool.{and-false}
 use Rattle.std.specs.List.{list_any, cons_option}
-use Rattle.std.proofs.lemmas.Bool.{false≢true}
+use Rattle.std.proofs.lemmas.Bool.{false≢true, or_left, or_right}
 use Rattle.std.proofs.lemmas.List.Elements.{filter_map-append}
 use Rattle.std.proofs.lemmas.List.Sums.{fold-append}
 use Rattle.stx_base.specs.declared.facts.StoreFacts.{StoreFacts}
@@ -24,21 +25,7 @@ WorksLive notes n = (t : ℕ) → list_any (ends t) notes ≡ true → works t n
 
 committed_same : (notes : List StoreNote) (n : StoreNote) (c : ℕ) (m : StoreNote) → ((t : ℕ) → ends t m ≡ true → works t n ≡ false) → committed_note (notes ++ n ∷ []) c m ≡ committed_note notes c m
 committed_same notes n c (StoreNote.Commit t k) apart = ap (λ w. Some (record { client = c; tx = Some t; work = w })) (work_same notes n t (apart t (eq-eqb t t refl)))
-committed_same notes n c (StoreNote.Auto a r) apart = refl
-committed_same notes n c (StoreNote.Begin t) apart = refl
-committed_same notes n c (StoreNote.Access t a r) apart = refl
-committed_same notes n c (StoreNote.Point t) apart = refl
-committed_same notes n c (StoreNote.BackTo t) apart = refl
-committed_same notes n c (StoreNote.Release t) apart = refl
-committed_same notes n c (StoreNote.Rollback t) apart = refl
-
-or_left : (a b : Bool) → a ≡ true → (a || b) ≡ true
-or_left true b h = refl
-or_left false b h = absurd (false≢true h)
-
-or_right : (a b : Bool) → b ≡ true → (a || b) ≡ true
-or_right true b h = refl
-or_right false b h = h
+committed_same notes n c m apart = refl
 
 journal_same : (notes : List StoreNote) (n : StoreNote) (part : List StoreEntry) → WorksLive (store_notes part) n → filter_map (committed_by (notes ++ n ∷ [])) part ≡ filter_map (committed_by notes) part
 journal_same notes n [] apart = refl
@@ -98,11 +85,7 @@ committed_in-length values H = length-from (first_rows values) 0 (journal H)
 -- ---- an entry that fits works for no transaction that has ended
 
 ended_dead : (notes : List StoreNote) (t : ℕ) → list_any (ends t) notes ≡ true → is_live notes t ≡ false
-ended_dead notes t h = is_live-parts notes t ∙ ap (λ b. contains (begun notes) t && not b) h ∙ and_false (contains (begun notes) t)
-  where
-    and_false : (b : Bool) → (b && false) ≡ false
-    and_false true = refl
-    and_false false = refl
+ended_dead notes t h = is_live-parts notes t ∙ ap (λ b. contains (begun notes) t && not b) h ∙ and-false (contains (begun notes) t)
 
 works_named : (t : ℕ) (n : StoreNote) → works t n ≡ true → (names t n ≡ true) × (begun (n ∷ []) ≡ [])
 works_named t n h = (by_names (names t n) refl, begins_none n h)

@@ -1,5 +1,6 @@
 -- What is kept stays right with each note.
 use Rattle.std.proofs.Common.{◌≡◌, ◌≢◌, ℕ, ℤ, suc, Bool, true, false, not, ◌&&◌, ◌||◌, ◌==◌, cond, List, [], ◌∷◌, ◌++◌, Option, Some, None, length, fold, refl, sym, ap, ◌∙◌, subst, append-nil, inl, inr, arith, eq-eqb, ne_eqb, eqb-true}
+use Rattle.std.proofs.Math.Bool.{or-true, and-false}
 use Rattle.std.specs.List.{list_any}
 use Rattle.std.specs.Option.{unwrap_or}
 use Rattle.std.proofs.lemmas.Bool.{false≢true, cases_eq}
@@ -35,20 +36,11 @@ works_other t (StoreNote.Access u a r) h = ap (λ b. b && not (is_busy r)) h
 works_other t (StoreNote.Point u) h = h
 works_other t (StoreNote.BackTo u) h = h
 works_other t (StoreNote.Release u) h = h
-works_other t (StoreNote.Begin u) h = refl
-works_other t (StoreNote.Commit u m) h = refl
-works_other t (StoreNote.Rollback u) h = refl
-works_other t (StoreNote.Auto a r) h = refl
+works_other t n h = refl
 
 pub takes_other : (t k : ℕ) (n : StoreNote) → names t n ≡ false → takes t k n ≡ false
 takes_other t k (StoreNote.Access u a r) h = ap (λ b. b && (row_of a == k) && not (is_busy r)) h
-takes_other t k (StoreNote.Point u) h = refl
-takes_other t k (StoreNote.BackTo u) h = refl
-takes_other t k (StoreNote.Release u) h = refl
-takes_other t k (StoreNote.Begin u) h = refl
-takes_other t k (StoreNote.Commit u m) h = refl
-takes_other t k (StoreNote.Rollback u) h = refl
-takes_other t k (StoreNote.Auto a r) h = refl
+takes_other t k n h = refl
 
 pub any_takes-same : (notes : List StoreNote) (n : StoreNote) (t k : ℕ) → takes t k n ≡ false → list_any (takes t k) (notes ++ n ∷ []) ≡ list_any (takes t k) notes
 any_takes-same notes n t k h = list_any-push (takes t k) notes n ∙ ap (λ b. list_any (takes t k) notes || b) h ∙ or-false (list_any (takes t k) notes)
@@ -69,20 +61,12 @@ live_same own n t none still =
     ∙ ap (λ b. contains (begun own) t && not b) (or-false (list_any (ends t) own))
     ∙ sym (is_live-parts own t)
 
-or_true : (b : Bool) → (b || true) ≡ true
-or_true true = refl
-or_true false = refl
-
-and_false : (b : Bool) → (b && false) ≡ false
-and_false true = refl
-and_false false = refl
-
 pub dead : (own : List StoreNote) (n : StoreNote) (t : ℕ) → ends t n ≡ true → is_live (own ++ n ∷ []) t ≡ false
 dead own n t end =
     is_live-push own n t
     ∙ ap (λ b. (contains (begun own) t || contains (begun (n ∷ [])) t) && not (list_any (ends t) own || b)) end
-    ∙ ap (λ b. (contains (begun own) t || contains (begun (n ∷ [])) t) && not b) (or_true (list_any (ends t) own))
-    ∙ and_false (contains (begun own) t || contains (begun (n ∷ [])) t)
+    ∙ ap (λ b. (contains (begun own) t || contains (begun (n ∷ [])) t) && not b) (or-true (list_any (ends t) own))
+    ∙ and-false (contains (begun own) t || contains (begun (n ∷ [])) t)
 
 -- ---- as many savepoints are open as there are copies
 
@@ -294,8 +278,8 @@ module _ (notes : List StoreNote) (base : ℕ → Option ℤ) (locks : ℕ → O
       by_locks k u alive took true is was =
           (λ i. lives u i && list_any-push (takes u k) notes n i)
           ∙ ap (λ b. b && (list_any (takes u k) notes || takes u k n)) (takes_live k u is)
-          ∙ ap (λ b. list_any (takes u k) notes || b) is ∙ or_true (list_any (takes u k) notes)
-          ∙ sym (ap (λ b. held_by (locks k) u || b) is ∙ or_true (held_by (locks k) u))
+          ∙ ap (λ b. list_any (takes u k) notes || b) is ∙ or-true (list_any (takes u k) notes)
+          ∙ sym (ap (λ b. held_by (locks k) u || b) is ∙ or-true (held_by (locks k) u))
 
       held_case : (u k : ℕ) → is_live (notes ++ n ∷ []) u ≡ true → held_by (locks' k) u ≡ true → Mirrors (values' k) (base k) (stacks' u k) (cell_worked k (base k) (work (notes ++ n ∷ []) u))
       held_case u k live' h = elim (cases_eq u t) [
@@ -318,7 +302,7 @@ module _ (notes : List StoreNote) (base : ℕ → Option ℤ) (locks : ℕ → O
   keeps-begun t base' locks' values' stacks' fresh bases locks_as values_as stays new = record {
     locked = λ k u. elim (cases_eq u t) [
       | inl same ↦ subst (λ v. (is_live (notes ++ n ∷ []) v && list_any (takes v k) (notes ++ n ∷ [])) ≡ held_by (locks' k) v) (sym same)
-          (ap (λ b. is_live (notes ++ n ∷ []) t && b) (any_takes-same notes n t k refl ∙ any_takes-none notes t k fresh) ∙ and_false (is_live (notes ++ n ∷ []) t) ∙ sym (ap (λ o. held_by o t) (locks_as k) ∙ unheld k))
+          (ap (λ b. is_live (notes ++ n ∷ []) t && b) (any_takes-same notes n t k refl ∙ any_takes-none notes t k fresh) ∙ and-false (is_live (notes ++ n ∷ []) t) ∙ sym (ap (λ o. held_by o t) (locks_as k) ∙ unheld k))
       | inr differs ↦ (λ i. is_live-push_other notes n u (other u differs) i && any_takes-same notes n u k refl i) ∙ keeps.locked k u ∙ ap (λ o. held_by o u) (sym (locks_as k))
     ];
     height = λ u k live. elim (cases_eq u t) [

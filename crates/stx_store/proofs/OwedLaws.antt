@@ -1,18 +1,18 @@
 -- What the store owes grows and shrinks with each entry.
-use Rattle.std.proofs.Common.{IsTrue, ◌≡◌, ◌≢◌, ℕ, suc, ◌+◌, ◌<◌, ◌≤◌, Bool, true, false, not, ◌&&◌, ◌||◌, cond, List, [], ◌∷◌, ◌++◌, length, refl, sym, ap, ◌∙◌, subst, Some, arith, eq-eqb, ne_eqb, eqb-true}
+use Rattle.std.proofs.Common.{IsTrue, ◌≡◌, ◌≢◌, ℕ, suc, ◌+◌, ◌<◌, ◌≤◌, Bool, true, false, ◌&&◌, cond, List, [], ◌∷◌, ◌++◌, length, refl, sym, ap, ◌∙◌, subst, Some, arith, eq-eqb, ne_eqb, eqb-true}
 use Rattle.std.specs.List.{list_any}
 use Rattle.std.proofs.lemmas.Bool.{false≢true, and_parts}
 use Rattle.stx_base.specs.declared.facts.StoreFacts.{StoreFacts}
 use Rattle.stx_base.specs.declared.history.StoreNote.{StoreNote}
 use Rattle.stx_base.specs.declared.history.StoreEntry.{StoreEntry}
 use Rattle.stx_base.specs.Histories.{store_notes, store_notes_of, has_room}
-use Rattle.stx_base.specs.Pools.{contains}
 use Rattle.stx_base.specs.Alone.{without_innermost}
 use Rattle.stx_base.specs.Stores.{store_reply, store_want, store_proper, begun, ends, is_live, pointed, savepoints, with_return, can_go_back, is_pointed}
 use Rattle.stx_base.specs.Legal.{StoreFits}
-use Rattle.stx_base.proofs.HistoryLaws.{or-false, sum_below, sum_below-same, sum_below-at, is_live-parts, is_live-push, savepoints-push, store_notes_of-push, store_notes_of-push_other, none_of}
+use Rattle.stx_base.proofs.HistoryLaws.{sum_below, sum_below-same, sum_below-at, savepoints-push, store_notes_of-push, store_notes_of-push_other, none_of}
 use Rattle.stx_base.proofs.StoreLaws.{names, lives, begin_number, begun_length-push, is_live_none, is_live-push_other, savepoints_none, savepoints-push_other, Unnamed, live_below}
 use Rattle.stx_store.specs.inner.Owed.{more_owed, was_owed, costs, due, owed_to}
+use Rattle.stx_store.proofs.KeepLaws.{live_same, dead}
 
 abbrev pub entry : ℕ → StoreNote → StoreEntry
 entry client note = record { client = client; note = note }
@@ -40,38 +40,14 @@ due_none own t h = ap (λ b. cond b (costs (savepoints own t) + 1) 0) (is_live_n
 due-live : (own : List StoreNote) (t : ℕ) → is_live own t ≡ true → due own t ≡ costs (savepoints own t) + 1
 due-live own t h = ap (λ b. cond b (costs (savepoints own t) + 1) 0) h
 
--- a note that neither begins nor ends a transaction lets it live
-live_kept : (own : List StoreNote) (n : StoreNote) (t : ℕ) → begun (n ∷ []) ≡ [] → ends t n ≡ false → is_live (own ++ n ∷ []) t ≡ is_live own t
-live_kept own n t none still =
-    is_live-push own n t
-    ∙ ap (λ us. (contains (begun own) t || contains us t) && not (list_any (ends t) own || ends t n)) none
-    ∙ ap (λ b. b && not (list_any (ends t) own || ends t n)) (or-false (contains (begun own) t))
-    ∙ ap (λ b. contains (begun own) t && not (list_any (ends t) own || b)) still
-    ∙ ap (λ b. contains (begun own) t && not b) (or-false (list_any (ends t) own))
-    ∙ sym (is_live-parts own t)
-
 due_kept : (own : List StoreNote) (n : StoreNote) (t : ℕ) → begun (n ∷ []) ≡ [] → ends t n ≡ false → due (own ++ n ∷ []) t ≡ cond (is_live own t) (costs (pointed t (savepoints own t) n) + 1) 0
 due_kept own n t none still =
-    ap (λ b. cond b (costs (savepoints (own ++ n ∷ []) t) + 1) 0) (live_kept own n t none still)
+    ap (λ b. cond b (costs (savepoints (own ++ n ∷ []) t) + 1) 0) (live_same own n t none still)
     ∙ ap (λ ps. cond (is_live own t) (costs ps + 1) 0) (savepoints-push own n t)
-
-or_true : (b : Bool) → (b || true) ≡ true
-or_true true = refl
-or_true false = refl
-
-and_false : (b : Bool) → (b && false) ≡ false
-and_false true = refl
-and_false false = refl
 
 -- an ended transaction is owed nothing
 due_ended : (own : List StoreNote) (n : StoreNote) (t : ℕ) → ends t n ≡ true → due (own ++ n ∷ []) t ≡ 0
-due_ended own n t end =
-    let dead : is_live (own ++ n ∷ []) t ≡ false =
-    is_live-push own n t
-    ∙ ap (λ b. (contains (begun own) t || contains (begun (n ∷ [])) t) && not (list_any (ends t) own || b)) end
-    ∙ ap (λ b. (contains (begun own) t || contains (begun (n ∷ [])) t) && not b) (or_true (list_any (ends t) own))
-    ∙ and_false (contains (begun own) t || contains (begun (n ∷ [])) t) in
-    ap (λ b. cond b (costs (savepoints (own ++ n ∷ []) t) + 1) 0) dead
+due_ended own n t end = ap (λ b. cond b (costs (savepoints (own ++ n ∷ []) t) + 1) 0) (dead own n t end)
 
 due_begun : (own : List StoreNote) (t : ℕ) → list_any (names t) own ≡ false → due (own ++ StoreNote.Begin t ∷ []) t ≤ 1
 due_begun own t none =
@@ -196,28 +172,30 @@ stays clients H c t n below fresh alive is none = owed-step clients H c t n belo
 last_part : (room alive last : Bool) → IsTrue (room && (alive && last)) → last ≡ true
 last_part room alive last h = (and_parts alive last (and_parts room (alive && last) h).1).1
 
+-- a note of a transaction that lives, after which less is due to it
+less_due : (clients : ℕ) (H : List StoreEntry) (c t : ℕ) (n : StoreNote) → c < clients → Unnamed H → is_live (store_notes_of H c) t ≡ true
+    → names t n ≡ true → begun (n ∷ []) ≡ [] → due (store_notes_of H c ++ n ∷ []) t + 1 ≤ due (store_notes_of H c) t → owed_to clients (H ++ entry c n ∷ []) + 1 ≤ owed_to clients H
+less_due clients H c t n below fresh alive is none less =
+    less_step _ _ (due (store_notes_of H c) t) (due (store_notes_of H c ++ n ∷ []) t) (stays clients H c t n below fresh alive is none) less
+
 ended_at : (clients : ℕ) (H : List StoreEntry) (c t : ℕ) (n : StoreNote) → c < clients → Unnamed H → is_live (store_notes_of H c) t ≡ true
     → names t n ≡ true → begun (n ∷ []) ≡ [] → ends t n ≡ true → owed_to clients (H ++ entry c n ∷ []) + 1 ≤ owed_to clients H
 ended_at clients H c t n below fresh alive is none end =
     let before = due-live (store_notes_of H c) t alive in
     let dead = due_ended (store_notes_of H c) n t end in
-    less_step _ _ (due (store_notes_of H c) t) (due (store_notes_of H c ++ n ∷ []) t) (stays clients H c t n below fresh alive is none) (omega arith)
+    less_due clients H c t n below fresh alive is none (omega arith)
 
 spent_at : (clients : ℕ) (H : List StoreEntry) (c : ℕ) (n : StoreNote) → Unnamed H → c < clients → IsTrue (store_proper (store_notes_of H c) (store_want n)) → was_owed n ≡ true
     → owed_to clients (H ++ entry c n ∷ []) + 1 ≤ owed_to clients H
 unfolding store_proper
 spent_at clients H c (StoreNote.BackTo t) fresh below proper owed =
     let own = store_notes_of H c in
-    let n = StoreNote.BackTo t in
-    let alive = lives own t n (eq-eqb t t refl) refl proper in
-    let can = last_part (has_room own) (is_live own t) (can_go_back (savepoints own t)) proper in
-    less_step _ _ (due own t) (due (own ++ n ∷ []) t) (stays clients H c t n below fresh alive (eq-eqb t t refl) refl) (due_back own t alive can)
+    let alive = lives own t (StoreNote.BackTo t) (eq-eqb t t refl) refl proper in
+    less_due clients H c t (StoreNote.BackTo t) below fresh alive (eq-eqb t t refl) refl (due_back own t alive (last_part (has_room own) (is_live own t) (can_go_back (savepoints own t)) proper))
 spent_at clients H c (StoreNote.Release t) fresh below proper owed =
     let own = store_notes_of H c in
-    let n = StoreNote.Release t in
-    let alive = lives own t n (eq-eqb t t refl) refl proper in
-    let open_one = last_part (has_room own) (is_live own t) (is_pointed (savepoints own t)) proper in
-    less_step _ _ (due own t) (due (own ++ n ∷ []) t) (stays clients H c t n below fresh alive (eq-eqb t t refl) refl) (due_release own t alive open_one)
+    let alive = lives own t (StoreNote.Release t) (eq-eqb t t refl) refl proper in
+    less_due clients H c t (StoreNote.Release t) below fresh alive (eq-eqb t t refl) refl (due_release own t alive (last_part (has_room own) (is_live own t) (is_pointed (savepoints own t)) proper))
 spent_at clients H c (StoreNote.Commit t m) fresh below proper owed =
     ended_at clients H c t (StoreNote.Commit t m) below fresh (lives (store_notes_of H c) t (StoreNote.Commit t m) (eq-eqb t t refl) refl proper) (eq-eqb t t refl) refl (eq-eqb t t refl)
 spent_at clients H c (StoreNote.Rollback t) fresh below proper owed =

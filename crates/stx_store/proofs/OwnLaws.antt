@@ -1,5 +1,6 @@
 -- What lives for its client lives for all, and only one client has it.
 use Rattle.std.proofs.Common.{◌≡◌, ℕ, Bool, true, false, not, ◌&&◌, ◌||◌, IsTrue, List, [], ◌∷◌, ◌++◌, Some, refl, sym, ap, ◌∙◌, subst, inl, inr, arith, eq-eqb, eqb-true}
+use Rattle.std.proofs.Math.Bool.{or-true}
 use Rattle.std.specs.List.{list_any}
 use Rattle.std.proofs.lemmas.Bool.{false≢true, cases_eq}
 use Rattle.stx_base.specs.declared.facts.StoreFacts.{StoreFacts}
@@ -40,14 +41,10 @@ begun_here : (ns : List StoreNote) (t : ℕ) → list_any (names t) ns ≡ false
 begun_here ns t none =
     is_live-push ns (StoreNote.Begin t) t
     ∙ (λ i. (contains (begun ns) t || same i) && not (list_any (ends t) ns || false))
-    ∙ (λ i. or_true (contains (begun ns) t) i && not (ended i))
+    ∙ (λ i. or-true (contains (begun ns) t) i && not (ended i))
   where
     same : contains (t ∷ []) t ≡ true
     same = ap (λ b. b || false) (eq-eqb t t refl)
-
-    or_true : (b : Bool) → (b || true) ≡ true
-    or_true true = refl
-    or_true false = refl
 
     ended : (list_any (ends t) ns || false) ≡ false
     ended = or-false (list_any (ends t) ns) ∙ any_ends ns t none

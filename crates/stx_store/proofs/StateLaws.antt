@@ -1,5 +1,6 @@
 -- The locks and the rows stay those of the history with each call.
 use Rattle.std.proofs.Common.{◌≡◌, ◌≢◌, ℕ, ℤ, zero, suc, Bool, true, false, not, ◌&&◌, ◌||◌, ◌==◌, cond, List, [], ◌∷◌, ◌++◌, Option, Some, None, length, map, refl, sym, ap, ◌∙◌, subst, inl, inr, arith, eq-eqb, ne_eqb, eqb-true}
+use Rattle.std.proofs.Math.Bool.{or-true}
 use Rattle.std.specs.Option.{option_map, unwrap_or}
 use Rattle.std.specs.List.{list_any}
 use Rattle.std.specs.FinMap.{get, empty, get-empty}
@@ -240,11 +241,7 @@ module _ (facts : StoreFacts) (H : List StoreEntry) (locks : LockMap) (rows : Ro
       own_row : held_by (get locks' (row_of a)) t ≡ true
       own_row =
           ap (λ o. held_by o t) (locked (row_of a) ∙ ap (λ b. cond b (after_asked (get locks (row_of a)) t) (get locks (row_of a))) (eq-eqb (row_of a) (row_of a) refl))
-          ∙ own_after (get locks (row_of a)) t t granted ∙ ap (λ b. held_by (get locks (row_of a)) t || b) (eq-eqb t t refl) ∙ or_true (held_by (get locks (row_of a)) t)
-        where
-          or_true : (b : Bool) → (b || true) ≡ true
-          or_true true = refl
-          or_true false = refl
+          ∙ own_after (get locks (row_of a)) t t granted ∙ ap (λ b. held_by (get locks (row_of a)) t || b) (eq-eqb t t refl) ∙ or-true (held_by (get locks (row_of a)) t)
 
       unheld : (k : ℕ) → held_by (get locks' k) t ≡ false → (get rows'.values k ≡ get rows.values k) × (stack_at rows' t k ≡ nones (suc (length (pointed t (savepoints notes t) n))))
       unheld k h = elim (cases_eq k (row_of a)) [

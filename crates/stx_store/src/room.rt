@@ -1,7 +1,7 @@
 // Room for an entry, and for all that is owed after it.
-ghost use Rattle.std.specs.Prelude.{◌≡◌, ◌+◌, ◌<◌, ◌≤◌, IfOk, OnErr, vec_len, vec_capacity};
+ghost use Rattle.std.specs.Prelude.{◌≡◌, ◌+◌, ◌-◌, ◌++◌, ◌∷◌, [], ◌<◌, ◌≤◌, IfOk, OnErr, vec_len, vec_capacity};
 
-use stx_base::StoreEntry;
+use stx_base::{StoreEntry, StoreNote};
 use stx_journal::Journal;
 use stx_scenario::NoMemory;
 
@@ -28,4 +28,22 @@ pub(crate) fn room_for(
     entries.reserve(wanted)?;
     journal.reserve(wanted)?;
     Ok(now)
+}
+
+/// Keeps the entry of a note that was owed, in the room that was made for it.
+pub(crate) fn keep_owed(
+    entries: &mut Vec<StoreEntry>,
+    owed: &mut usize,
+    client: u32,
+    note: StoreNote,
+)
+    requires some { 1 ≤ owed.old }
+    requires room { vec_len entries.old + owed.old ≤ vec_capacity entries.old }
+    ensures items { entries.new.items ≡ entries.old.items ++ record { client = client; note = note } ∷ [] }
+    ensures len { vec_len entries.new ≡ vec_len entries.old + 1 }
+    ensures capacity { vec_capacity entries.new ≡ vec_capacity entries.old }
+    ensures owed { owed.new ≡ owed.old - 1 }
+{
+    *owed -= 1;
+    entries.push_reserved(StoreEntry { client, note });
 }

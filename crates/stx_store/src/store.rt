@@ -9,7 +9,7 @@ ghost use Rattle.std.specs.Option.{option_copied};
 ghost use Rattle.stx_store.specs.Store.{Store, StoreReplies, StoreCallAnswered, new_store, with_store_entry, last_committed};
 
 use crate::access::{answer_at, make_access, put, row_named};
-use crate::room::room_for;
+use crate::room::{keep_owed, room_for};
 use std::alloc::Global;
 use std::marker::Model;
 use stx_base::{
@@ -137,11 +137,8 @@ impl StoreCore {
         ensures { StoreReplies self.old self.new client (Want.BackTo tx) (StoreNote.BackTo tx) }
     {
         self.rows.back_to(tx);
-        self.owed -= 1;
-        self.entries.push_reserved(StoreEntry {
-            client,
-            note: StoreNote::BackTo(tx),
-        });
+        let note = StoreNote::BackTo(tx);
+        keep_owed(&mut self.entries, &mut self.owed, client, note);
     }
 
     /// Releases a transaction's innermost savepoint.
@@ -152,11 +149,8 @@ impl StoreCore {
         ensures { StoreReplies self.old self.new client (Want.Release tx) (StoreNote.Release tx) }
     {
         self.rows.forget(tx);
-        self.owed -= 1;
-        self.entries.push_reserved(StoreEntry {
-            client,
-            note: StoreNote::Release(tx),
-        });
+        let note = StoreNote::Release(tx);
+        keep_owed(&mut self.entries, &mut self.owed, client, note);
     }
 
     /// Commits the transaction of a session, and gives its place in the journal, from 1.
@@ -176,11 +170,8 @@ impl StoreCore {
             tx: Some(tx),
             changes,
         });
-        self.owed -= 1;
-        self.entries.push_reserved(StoreEntry {
-            client,
-            note: StoreNote::Commit { tx, number },
-        });
+        let note = StoreNote::Commit { tx, number };
+        keep_owed(&mut self.entries, &mut self.owed, client, note);
         number
     }
 
@@ -194,11 +185,8 @@ impl StoreCore {
         session.retire();
         self.rows.undo(tx);
         self.locks.end(tx);
-        self.owed -= 1;
-        self.entries.push_reserved(StoreEntry {
-            client,
-            note: StoreNote::Rollback(tx),
-        });
+        let note = StoreNote::Rollback(tx);
+        keep_owed(&mut self.entries, &mut self.owed, client, note);
     }
 
     /// Reads, writes or erases a row outside a transaction, which commits at once, unless a transaction holds the row.

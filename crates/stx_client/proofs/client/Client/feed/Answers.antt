@@ -3,7 +3,7 @@ use Rattle.std.proofs.Common.{◌≡◌, ◌∙◌, ◌++◌, false, sym, ap}
 use Rattle.stx_base.specs.Notes.{note_of}
 use Rattle.stx_machine.specs.Machine.{has_failed}
 use Rattle.stx_machine.specs.Sound.{held}
-use Rattle.stx_client.specs.View.{pool_with, store_with}
+use Rattle.stx_model.specs.Reads.{pool_with, store_with}
 use Rattle.stx_client.specs.inner.Keeps.{RunsOn}
 use Rattle.stx_client.proofs.ClientLaws.{fed_is, goes_whatever, going, out_is, reads_now, runs_with, said_now}
 use Rattle.stx_client.proofs.client.Client.feed.Goals as goal

@@ -17,9 +17,7 @@ lines_of-requires c =
 pub returns-clause-outcome : goal.returns-clause-outcome
 returns-clause-outcome c =
     let i = c.self.inside in
-    let S = i.setup.now.scenario in
-    let going = goes_on c.self.invariant c.args.self c.self.view_is c.requires.going in
-    let lines = c.in_ok-lines.ensures ∙ lines_are S i.pool i.store i.clients.items going in
+    let lines = c.in_ok-lines.ensures ∙ lines_are i.setup.now.scenario i.pool i.store i.clients.items (goes_on c.self.invariant c.args.self c.self.view_is c.requires.going) in
     rw (← c.self.view_is) (λ k. record { lines = lines k; pool = c.into_entries.ensures k; store = c.into_entries-2.ensures k })
 
 pub returns-clause-faithful : goal.returns-clause-faithful

@@ -1,5 +1,5 @@
 -- The older values are put back, and the locks freed.
-use Rattle.std.proofs.Common.{◌≤◌, IsTrue, refl, sym, subst, arith}
+use Rattle.std.proofs.Common.{IsTrue, refl, sym, subst}
 use Rattle.stx_base.specs.declared.call.Want.{Want}
 use Rattle.stx_base.specs.declared.history.StoreNote.{StoreNote}
 use Rattle.stx_base.specs.Histories.{store_notes_of}
@@ -10,19 +10,14 @@ use Rattle.stx_store.proofs.FitLaws.{store_of}
 use Rattle.stx_store.proofs.CoreLaws.{proper_in, replies, fits-rollback, owed-one, core-undone}
 use Rattle.stx_store.proofs.store.StoreCore.rollback.Goals as goal
 
-pub overflow_sub-self : goal.overflow_sub-self
-overflow_sub-self c = owed-one c.self.inside.facts c.self.inside.entries.items c.self.inside.owed _ _ c.self.inside.begun c.self.inside.locks c.self.inside.rows c.self.inside.journal c.self.invariant (entry c.args.client (StoreNote.Rollback c.number-tx.result)) (fits-rollback c.self.inside.facts c.self.inside.entries.items c.self.inside.owed _ _ c.self.inside.begun c.self.inside.locks c.self.inside.rows c.self.inside.journal c.self.invariant c.args.client c.number-tx.result c.requires.client (subst (λ t. IsTrue (store_proper (store_notes_of c.self.inside.entries.items c.args.client) (Want.Rollback t))) (sym c.number-tx.ensures) (proper_in c.self.inside.facts c.self.inside.entries.items _ c.args.client (Want.Rollback c.args.session) c.self.view_is c.requires.proper))) refl
-
-pub push_reserved-requires : goal.push_reserved-requires
-push_reserved-requires c =
-    let one : 1 ≤ c.self.inside.owed = owed-one c.self.inside.facts c.self.inside.entries.items c.self.inside.owed _ _ c.self.inside.begun c.self.inside.locks c.self.inside.rows c.self.inside.journal c.self.invariant (entry c.args.client (StoreNote.Rollback c.number-tx.result)) (fits-rollback c.self.inside.facts c.self.inside.entries.items c.self.inside.owed _ _ c.self.inside.begun c.self.inside.locks c.self.inside.rows c.self.inside.journal c.self.invariant c.args.client c.number-tx.result c.requires.client (subst (λ t. IsTrue (store_proper (store_notes_of c.self.inside.entries.items c.args.client) (Want.Rollback t))) (sym c.number-tx.ensures) (proper_in c.self.inside.facts c.self.inside.entries.items _ c.args.client (Want.Rollback c.args.session) c.self.view_is c.requires.proper))) refl in
-    omega (arith, c.self.invariant.entries.room)
+pub keep_owed-requires-clause-some : goal.keep_owed-requires-clause-some
+keep_owed-requires-clause-some c = owed-one c.self.inside.facts c.self.inside.entries.items c.self.inside.owed _ _ c.self.inside.begun c.self.inside.locks c.self.inside.rows c.self.inside.journal c.self.invariant (entry c.args.client (StoreNote.Rollback c.number-tx.result)) (fits-rollback c.self.inside.facts c.self.inside.entries.items c.self.inside.owed _ _ c.self.inside.begun c.self.inside.locks c.self.inside.rows c.self.inside.journal c.self.invariant c.args.client c.number-tx.result c.requires.client (subst (λ t. IsTrue (store_proper (store_notes_of c.self.inside.entries.items c.args.client) (Want.Rollback t))) (sym c.number-tx.ensures) (proper_in c.self.inside.facts c.self.inside.entries.items _ c.args.client (Want.Rollback c.args.session) c.self.view_is c.requires.proper))) refl
 
 pub invariant_of-self : goal.invariant_of-self
 invariant_of-self c =
-    core-undone c.self.inside.facts c.self.inside.entries.items c.self.inside.owed _ _ c.self.inside.begun c.self.inside.locks c.self.inside.rows c.self.inside.journal c.self.invariant c.args.client c.number-tx.result (fits-rollback c.self.inside.facts c.self.inside.entries.items c.self.inside.owed _ _ c.self.inside.begun c.self.inside.locks c.self.inside.rows c.self.inside.journal c.self.invariant c.args.client c.number-tx.result c.requires.client (subst (λ t. IsTrue (store_proper (store_notes_of c.self.inside.entries.items c.args.client) (Want.Rollback t))) (sym c.number-tx.ensures) (proper_in c.self.inside.facts c.self.inside.entries.items _ c.args.client (Want.Rollback c.args.session) c.self.view_is c.requires.proper))) _ _ _ c.end.new.self c.undo.new.self c.push_reserved.ensures.items c.push_reserved.ensures.len c.push_reserved.ensures.capacity c.end.ensures c.undo.ensures.values c.undo.ensures.older
+    core-undone c.self.inside.facts c.self.inside.entries.items c.self.inside.owed _ _ c.self.inside.begun c.self.inside.locks c.self.inside.rows c.self.inside.journal c.self.invariant c.args.client c.number-tx.result (fits-rollback c.self.inside.facts c.self.inside.entries.items c.self.inside.owed _ _ c.self.inside.begun c.self.inside.locks c.self.inside.rows c.self.inside.journal c.self.invariant c.args.client c.number-tx.result c.requires.client (subst (λ t. IsTrue (store_proper (store_notes_of c.self.inside.entries.items c.args.client) (Want.Rollback t))) (sym c.number-tx.ensures) (proper_in c.self.inside.facts c.self.inside.entries.items _ c.args.client (Want.Rollback c.args.session) c.self.view_is c.requires.proper))) _ _ _ _ c.end.new.self c.undo.new.self c.keep_owed.ensures.items c.keep_owed.ensures.owed c.keep_owed.ensures.len c.keep_owed.ensures.capacity c.end.ensures c.undo.ensures.values c.undo.ensures.older
 
 pub returns : goal.returns
 returns c =
-    subst (λ t. StoreReplies c.args.self.now (store_of c.self.inside.facts c.push_reserved.new.self.items) c.args.client (Want.Rollback t) (StoreNote.Rollback t)) c.number-tx.ensures
-    (replies c.self.inside.facts c.self.inside.entries.items c.push_reserved.new.self.items _ c.args.client (StoreNote.Rollback c.number-tx.result) c.self.view_is (fits-rollback c.self.inside.facts c.self.inside.entries.items c.self.inside.owed _ _ c.self.inside.begun c.self.inside.locks c.self.inside.rows c.self.inside.journal c.self.invariant c.args.client c.number-tx.result c.requires.client (subst (λ t. IsTrue (store_proper (store_notes_of c.self.inside.entries.items c.args.client) (Want.Rollback t))) (sym c.number-tx.ensures) (proper_in c.self.inside.facts c.self.inside.entries.items _ c.args.client (Want.Rollback c.args.session) c.self.view_is c.requires.proper))) c.push_reserved.ensures.items)
+    subst (λ t. StoreReplies c.args.self.now (store_of c.self.inside.facts c.keep_owed.new.entries.items) c.args.client (Want.Rollback t) (StoreNote.Rollback t)) c.number-tx.ensures
+    (replies c.self.inside.facts c.self.inside.entries.items c.keep_owed.new.entries.items _ c.args.client (StoreNote.Rollback c.number-tx.result) c.self.view_is (fits-rollback c.self.inside.facts c.self.inside.entries.items c.self.inside.owed _ _ c.self.inside.begun c.self.inside.locks c.self.inside.rows c.self.inside.journal c.self.invariant c.args.client c.number-tx.result c.requires.client (subst (λ t. IsTrue (store_proper (store_notes_of c.self.inside.entries.items c.args.client) (Want.Rollback t))) (sym c.number-tx.ensures) (proper_in c.self.inside.facts c.self.inside.entries.items _ c.args.client (Want.Rollback c.args.session) c.self.view_is c.requires.proper))) c.keep_owed.ensures.items)
