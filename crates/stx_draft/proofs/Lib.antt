@@ -1,5 +1,6 @@
 pub mod PartLaws
 pub mod RowLaws
+pub mod GrowthLaws
 pub mod LeafLaws
 pub mod DocumentLaws
 pub mod WalkLaws

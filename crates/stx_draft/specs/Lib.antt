@@ -4,3 +4,4 @@ pub mod Parts
 pub mod DeclaredNames
 pub mod Document
 pub mod Draft
+pub mod inner

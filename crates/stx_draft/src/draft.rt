@@ -1,14 +1,15 @@
 // The scenario that a document states: names become numbers, and a name of nothing becomes a number that nothing has.
-ghost use Rattle.std.specs.Prelude.{◌≡◌, ◌++◌, ◌<◌, ◌^◌, [], IfOk, None, map, length, codes, pos};
+ghost use Rattle.std.specs.Prelude.{◌≡◌, ◌++◌, ◌<◌, ◌^◌, [], IfOk, OnOk, None, map, length, codes, pos};
+ghost use Rattle.std.specs.List.{flat_map};
 ghost use Rattle.toml.specs.View.{table_view};
 ghost use Rattle.stx_scenario.specs.BuiltIn.{built_in};
 ghost use Rattle.stx_scenario.specs.Names.{built_in_names, duplicate_from};
 ghost use Rattle.stx_names.specs.Duplicates.{duplicate_among};
 ghost use Rattle.stx_draft.specs.DeclaredNames.{names_in as names_of_document};
-ghost use Rattle.stx_draft.specs.Draft.{all_names, numbered_by, bean_in, calls_in, class_in, drafted as drafted_of, listener_in, method_in_table, sync_in, natural as natural_of};
+ghost use Rattle.stx_draft.specs.Draft.{numbered_by, bean_in, calls_in, class_in, drafted as drafted_of, listener_in, method_in_table, sync_in, natural as natural_of, sentences_of};
+ghost use Rattle.stx_draft.specs.inner.Growing.{grown, Lasts};
 ghost use Rattle.stx_draft.specs.Parts.{numbers_at as numbers_of, tables_at as tables_of, number_at as number_of};
 
-mod rows;
 mod settings;
 mod statements;
 mod tables;
@@ -16,7 +17,6 @@ mod tx;
 
 use crate::declared_names::names_in;
 use crate::parts::{number_at, numbers_at, tables_at};
-use rows::with_named_rows;
 use settings::{natural, settings_of};
 use std::alloc::Global;
 use stx_names::{Named, Numbered, Numbers, built_in_numbers, with_names};
@@ -24,7 +24,7 @@ use stx_scenario::{
     Bean, Calls, ClassDecl, List, Listener, Method, Name, NoMemory, Scenario, SyncDecl,
     built_in_classes,
 };
-use tables::{Drafted, draft_each};
+use tables::{Bodied, Drafted, draft_each};
 use toml::Table;
 
 /// What a document lists.
@@ -37,14 +37,12 @@ struct Listed {
     classes: List<ClassDecl>,
 }
 
-/// What a document declares with statements or attributes, and what its clients call.
+/// What a document declares with statements.
 #[derive(Drop)]
-struct Declarations {
-    beans: List<Bean>,
+struct Bodies {
     methods: List<Method>,
     syncs: List<SyncDecl>,
     listeners: List<Listener>,
-    clients: List<Calls>,
 }
 
 /// The scenario that a document states, whose names all differ.
@@ -54,9 +52,11 @@ pub fn drafted(alloc: Global, root: &Table) -> Result<Scenario, NoMemory>
     ensures few_rows { IfOk result (λ scenario. length scenario.row_names < 2 ^ 32) }
 {
     let settings = settings_of(root);
-    let names = all_names_in(alloc, root)?;
+    let mut names = declared_numbers(alloc, root)?;
+    let bodies = bodies_in(alloc, root, &mut names)?;
     let listed = listed_in(alloc, root, &names)?;
-    let declared = declared_in(alloc, root, &names)?;
+    let beans = tables_of_array(alloc, root, "beans", &names)?;
+    let clients = tables_of_array(alloc, root, "clients", &names)?;
     Ok(Scenario {
         settings,
         events: listed.events,
@@ -64,11 +64,11 @@ pub fn drafted(alloc: Global, root: &Table) -> Result<Scenario, NoMemory>
         row_names: listed.row_names,
         values: listed.values,
         classes: listed.classes,
-        beans: declared.beans,
-        methods: declared.methods,
-        syncs: declared.syncs,
-        listeners: declared.listeners,
-        clients: declared.clients,
+        beans,
+        methods: bodies.methods,
+        syncs: bodies.syncs,
+        listeners: bodies.listeners,
+        clients,
     })
 }
 
@@ -89,42 +89,59 @@ fn listed_in(alloc: Global, root: &Table, names: &Numbered) -> Result<Listed, No
     })
 }
 
-fn declared_in(alloc: Global, root: &Table, names: &Numbered) -> Result<Declarations, NoMemory>
-    ensures beans { IfOk result (λ declared. declared.beans ≡ map (bean_in names.now) (tables_of (codes "beans") (table_view root.now))) }
-    ensures methods { IfOk result (λ declared. declared.methods ≡ map (method_in_table names.now) (tables_of (codes "methods") (table_view root.now))) }
-    ensures syncs { IfOk result (λ declared. declared.syncs ≡ map (sync_in names.now) (tables_of (codes "syncs") (table_view root.now))) }
-    ensures listeners { IfOk result (λ declared. declared.listeners ≡ map (listener_in names.now) (tables_of (codes "listeners") (table_view root.now))) }
-    ensures clients { IfOk result (λ declared. declared.clients ≡ map (calls_in names.now) (tables_of (codes "clients") (table_view root.now))) }
+/// What the tables with statements state. The rows that only statements name go to the end of the names first.
+fn bodies_in(alloc: Global, root: &Table, names: &mut Numbered) -> Result<Bodies, NoMemory>
+    ensures names { OnOk result (names.new ≡ grown names.old (sentences_of (table_view root.now))) }
+    ensures methods { IfOk result (λ bodies. bodies.methods ≡ map (method_in_table names.new) (tables_of (codes "methods") (table_view root.now))) }
+    ensures syncs { IfOk result (λ bodies. bodies.syncs ≡ map (sync_in names.new) (tables_of (codes "syncs") (table_view root.now))) }
+    ensures listeners { IfOk result (λ bodies. bodies.listeners ≡ map (listener_in names.new) (tables_of (codes "listeners") (table_view root.now))) }
 {
-    Ok(Declarations {
-        beans: tables_of_array(alloc, root, "beans", names)?,
-        methods: tables_of_array(alloc, root, "methods", names)?,
-        syncs: tables_of_array(alloc, root, "syncs", names)?,
-        listeners: tables_of_array(alloc, root, "listeners", names)?,
-        clients: tables_of_array(alloc, root, "clients", names)?,
+    let methods = bodied_of_array(alloc, root, "methods", names)?;
+    let syncs = bodied_of_array(alloc, root, "syncs", names)?;
+    let listeners = bodied_of_array(alloc, root, "listeners", names)?;
+    Ok(Bodies {
+        methods,
+        syncs,
+        listeners,
     })
 }
 
-/// The names of a document with their numbers.
-fn all_names_in(alloc: Global, root: &Table) -> Result<Numbered, NoMemory>
+/// What the tables with statements of an array state, one after the other.
+fn bodied_of_array<T: Bodied + Drop>(
+    alloc: Global,
+    root: &Table,
+    array: &str,
+    names: &mut Numbered,
+) -> Result<List<T>, NoMemory>
+    ensures names { OnOk result (names.new ≡ grown names.old (flat_map T.said (tables_of array.now (table_view root.now)))) }
+    ensures stated { IfOk result (Lasts (λ names. map (T.states names) (tables_of array.now (table_view root.now))) names.new) }
+{
+    let tables = tables_at(alloc, root, array)?;
+    let mut all = List::new(alloc);
+    for table in tables.as_slice() {
+        all.push(T::from_bodies(alloc, names, table)?)?;
+    }
+    Ok(all)
+}
+
+/// The names that the arrays of a document declare, with their numbers.
+fn declared_numbers(alloc: Global, root: &Table) -> Result<Numbered, NoMemory>
     requires { duplicate_among (names_of_document (table_view root.now)) ≡ None }
-    ensures { IfOk result (λ names. names ≡ all_names (table_view root.now)) }
+    ensures { IfOk result (λ names. names ≡ numbered_by (names_of_document (table_view root.now)) (names_of_document (table_view root.now)).rows) }
 {
     let named = names_in(alloc, root)?;
-    let rows = declared(alloc, &named.rows)?;
-    let rows = with_named_rows(alloc, root, rows)?;
-    let names = numbered(alloc, &named, rows)?;
+    let names = numbered(alloc, &named)?;
     Ok(names)
 }
 
-/// These names, which all differ, and rows with their numbers.
-fn numbered(alloc: Global, named: &Named, rows: Numbers) -> Result<Numbered, NoMemory>
+/// These names, which all differ, with their numbers.
+fn numbered(alloc: Global, named: &Named) -> Result<Numbered, NoMemory>
     requires { duplicate_among named.now ≡ None }
-    ensures { IfOk result (λ names. names ≡ numbered_by named.now rows) }
+    ensures { IfOk result (λ names. names ≡ numbered_by named.now named.now.rows) }
 {
     Ok(Numbered {
         events: declared(alloc, &named.events)?,
-        rows,
+        rows: declared(alloc, &named.rows)?,
         classes: declared_classes(alloc, &named.classes)?,
         beans: declared(alloc, &named.beans)?,
         methods: declared(alloc, &named.methods)?,

@@ -6,6 +6,7 @@ mod document;
 mod draft;
 mod leaf;
 mod parts;
+mod place;
 mod schema;
 mod walk;
 

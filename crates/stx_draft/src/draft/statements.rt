@@ -1,49 +1,80 @@
 // Statements, by the numbers of what they name.
-ghost use Rattle.std.specs.Prelude.{◌≡◌, IfOk, map, option_copied};
-ghost use Rattle.std.specs.List.{filter_map};
-ghost use Rattle.toml.specs.View.{table_view};
+ghost use Rattle.std.specs.Prelude.{◌≡◌, ◌∷◌, [], IfOk, OnOk, option_copied, option_and_then};
+ghost use Rattle.toml.specs.Data.{as_str};
+ghost use Rattle.toml.specs.View.{view, table_view};
+ghost use Rattle.stx_names.specs.Sentences.{sentence_in as sentence_of_text};
 ghost use Rattle.stx_draft.specs.Draft.{sentences_at as sentences_of, body_at as body_of, stated as stated_of};
+ghost use Rattle.stx_draft.specs.inner.Growing.{grown, Lasts};
 
-use crate::parts::texts_at;
+use crate::parts::array_at;
 use std::alloc::Global;
 use stx_names::{Numbered, Sentence, sentence_in};
 use stx_scenario::{List, NoMemory, Stmt};
-use toml::Table;
+use toml::{Table, Value};
 
 /// The statements under a key, by the names in them.
-pub fn sentences_at<'a>(
+fn sentences_at<'a>(
     alloc: Global,
     table: &'a Table,
     key: &str,
 ) -> Result<Vec<Sentence<'a>>, NoMemory>
     ensures { IfOk result (λ sentences. sentences.items ≡ sentences_of key.now (table_view table.now)) }
 {
-    let texts = texts_at(alloc, table, key)?;
     let mut sentences = Vec::new(alloc);
-    for text in texts.as_slice() {
-        if let Some(sentence) = sentence_in(text) {
+    for value in array_at(table, key) {
+        if let Some(sentence) = sentence_of(value) {
             sentences.push(sentence)?;
         }
     }
     Ok(sentences)
 }
 
-/// The statements under a key, in a method of a bean or in a callback.
+/// The statement that a value is, if it is one.
+fn sentence_of(value: &Value) -> Option<Sentence<'_>>
+    ensures { result ≡ option_and_then sentence_of_text (as_str (view value.now)) }
+{
+    match value.as_str() {
+        Some(text) => sentence_in(text),
+        None => None,
+    }
+}
+
+/// The statements under a key, in a method of a bean or in a callback. The rows that they name go to the end of the names
+/// first.
 pub fn body_at(
     alloc: Global,
-    names: &Numbered,
+    names: &mut Numbered,
     bean: Option<&str>,
     key: &str,
     table: &Table,
 ) -> Result<List<Stmt>, NoMemory>
-    ensures { IfOk result (λ body. body ≡ body_of names.now (option_copied bean.entry) key.now (table_view table.now)) }
+    ensures names { OnOk result (names.new ≡ grown names.old (sentences_of key.now (table_view table.now))) }
+    ensures body { IfOk result (Lasts (λ names. body_of names (option_copied bean.entry) key.now (table_view table.now)) names.new) }
 {
     let sentences = sentences_at(alloc, table, key)?;
     let mut body = List::new(alloc);
     for sentence in sentences.as_slice() {
+        add_row(alloc, names, sentence)?;
         body.push(stated(alloc, names, bean, sentence)?)?;
     }
     Ok(body)
+}
+
+/// Puts the row that a statement names, if it names one, at the end of the rows, unless it is there.
+fn add_row(alloc: Global, names: &mut Numbered, sentence: &Sentence<'_>) -> Result<(), NoMemory>
+    ensures { OnOk result (names.new ≡ grown names.old (sentence.now ∷ [])) }
+{
+    match sentence {
+        Sentence::Read(row)
+        | Sentence::Write(row, _)
+        | Sentence::Erase(row)
+        | Sentence::Add(row, _)
+        | Sentence::Need(row, _) => {
+            names.rows.add(alloc, row.as_str())?;
+        }
+        _ => {}
+    }
+    Ok(())
 }
 
 /// A statement by the numbers of what it names.

@@ -1,10 +1,12 @@
 // What the tables of a document state, by the numbers of what they name.
-ghost use Rattle.std.specs.Prelude.{◌≡◌, ◌++◌, IfOk, map};
+ghost use Rattle.std.specs.Prelude.{◌≡◌, ◌++◌, IfOk, OnOk, List as Elements, map, codes};
 ghost use Rattle.std.specs.Prelude.{None, Some};
 ghost use Rattle.toml.specs.Data.{Members};
 ghost use Rattle.toml.specs.View.{table_view};
 ghost use Rattle.stx_names.specs.declared.numbered.Numbered.{Numbered as Names};
-ghost use Rattle.stx_draft.specs.Draft.{class_in, bean_in, method_in_table, sync_in, listener_in, calls_in, called_no as called_number};
+ghost use Rattle.stx_draft.specs.Draft.{class_in, bean_in, method_in_table, sync_in, listener_in, calls_in, sentences_at, callback_sentences, called_no as called_number};
+ghost use Rattle.stx_draft.specs.inner.Growing.{grown, Lasts};
+ghost use Rattle.stx_names.specs.declared.sentence.Sentence.{Sentence as Said};
 ghost use Rattle.stx_names.specs.Sentences.{method_in as method_of};
 
 use super::settings::order_at;
@@ -25,6 +27,20 @@ pub trait Drafted: Sized {
     /// What a table states, where names have these numbers.
     fn from_table(alloc: Global, names: &Numbered, table: &Table) -> Result<Self, NoMemory>
         ensures { IfOk result (λ drafted. drafted ≡ stated names.now (table_view table.now)) };
+}
+
+/// What a table with statements may state.
+pub trait Bodied: Sized {
+    /// The statements in a table, in its order.
+    ghost said: { Members → Elements Said };
+
+    ghost states: { Names → Members → Self };
+
+    /// What a table states, where names have these numbers. The rows that its statements name go to the end of the names
+    /// first.
+    fn from_bodies(alloc: Global, names: &mut Numbered, table: &Table) -> Result<Self, NoMemory>
+        ensures names { OnOk result (names.new ≡ grown names.old (said (table_view table.now))) }
+        ensures stated { IfOk result (Lasts (λ names. states names (table_view table.now)) names.new) };
 }
 
 /// What tables state, after what is there already.
@@ -65,10 +81,12 @@ impl Drafted for Bean {
     }
 }
 
-impl Drafted for Method {
-    ghost stated = { method_in_table };
+impl Bodied for Method {
+    ghost said = { sentences_at (codes "body") };
 
-    fn from_table(alloc: Global, names: &Numbered, table: &Table) -> Result<Self, NoMemory> {
+    ghost states = { method_in_table };
+
+    fn from_bodies(alloc: Global, names: &mut Numbered, table: &Table) -> Result<Self, NoMemory> {
         let bean = text_at(table, "bean");
         Ok(Method {
             bean: names.bean_no(bean),
@@ -79,10 +97,12 @@ impl Drafted for Method {
     }
 }
 
-impl Drafted for SyncDecl {
-    ghost stated = { sync_in };
+impl Bodied for SyncDecl {
+    ghost said = { callback_sentences };
 
-    fn from_table(alloc: Global, names: &Numbered, table: &Table) -> Result<Self, NoMemory> {
+    ghost states = { sync_in };
+
+    fn from_bodies(alloc: Global, names: &mut Numbered, table: &Table) -> Result<Self, NoMemory> {
         Ok(SyncDecl {
             name: Name::new(alloc, text_at(table, "name"))?,
             order: order_at(table),
@@ -94,10 +114,12 @@ impl Drafted for SyncDecl {
     }
 }
 
-impl Drafted for Listener {
-    ghost stated = { listener_in };
+impl Bodied for Listener {
+    ghost said = { sentences_at (codes "body") };
 
-    fn from_table(alloc: Global, names: &Numbered, table: &Table) -> Result<Self, NoMemory> {
+    ghost states = { listener_in };
+
+    fn from_bodies(alloc: Global, names: &mut Numbered, table: &Table) -> Result<Self, NoMemory> {
         let phase = phase_in(text_at(table, "phase"));
         Ok(Listener {
             name: Name::new(alloc, text_at(table, "name"))?,

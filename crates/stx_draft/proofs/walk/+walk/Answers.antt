@@ -6,32 +6,32 @@ use Rattle.toml.proofs.Views.{table_get}
 use Rattle.stx_draft.specs.Schema.{key_of}
 use Rattle.std.specs.List.{flat_map}
 use Rattle.stx_draft.specs.Walk.{walk, key_faults}
+use Rattle.stx_draft.specs.inner.Places.{holder_path, place_path}
 use Rattle.stx_draft.proofs.WalkLaws.{fields_end, key_found, key_missing, table_end, tables_begin, entry_table}
 use Rattle.stx_draft.proofs.walk.+walk.Goals as goal
 
 pub entry_faults-returns-in-Table : goal.entry_faults-returns-in-Table
 entry_faults-returns-in-Table t c =
-    rw (entry_table c.args.shape c.args.path.now c.args.value.now c.in-Table.inner (map key_of c.fields_of.result.now) c.in-Table.is c.fields_of.ensures) c.table_faults.ensures
+    rw (entry_table c.args.shape (holder_path c.args.holder) c.args.value.now c.in-Table.inner (map key_of c.fields_of.result.now) c.in-Table.is c.fields_of.ensures) c.table_faults.ensures
 
-pub field_faults-returns-in_ok-path-in-Some : goal.field_faults-returns-in_ok-path-in-Some
-field_faults-returns-in_ok-path-in-Some t c =
+pub field_faults-returns-in-Some : goal.field_faults-returns-in-Some
+field_faults-returns-in-Some t c =
     let field = key_of c.args.field.now in
     let found : get_member field.name (table_view c.args.table.now) ≡ Some (view c.in-Some.value.now)
     = sym (table_get c.get.result field.name c.args.table.now.entries c.get.ensures.value) ∙ ap (λ r. option_map (λ x. view x.now) r) c.in-Some.is in
-    rw (key_found c.args.path.now (table_view c.args.table.now) field (view c.in-Some.value.now) found)
-    (rw (c.as_str.ensures, c.in_ok-path-in-Some.ensures) at c.value_faults.ensures)
+    rw (key_found (holder_path c.args.holder) (table_view c.args.table.now) field (view c.in-Some.value.now) found) c.value_faults.ensures
 
 pub field_faults-returns-in-None : goal.field_faults-returns-in-None
 field_faults-returns-in-None t c =
     let field = key_of c.args.field.now in
     let none : get_member field.name (table_view c.args.table.now) ≡ None
     = sym (table_get c.get.result field.name c.args.table.now.entries c.get.ensures.value) ∙ ap (λ r. option_map (λ x. view x.now) r) c.in-None.is in
-    rw (key_missing c.args.path.now (table_view c.args.table.now) field none) c.missing_fault.ensures
+    rw (key_missing (holder_path c.args.holder) (table_view c.args.table.now) field none) c.missing_fault.ensures
 
 pub table_faults-returns : goal.table_faults-returns
 table_faults-returns t c =
     let fields = c.args.fields.now in
-    let path = c.args.path.now in
+    let path = holder_path c.args.holder in
     let inner = table_view c.args.table.now in
     let known : c.loop-field.faults ≡ c.args.faults.now ++ flat_map (key_faults walk path inner) (map key_of fields)
     = fields_end (key_faults walk path inner) fields c.loop-field.faults _ c.loop-field.field-index c.loop-field-test.false c.loop-field.invariant in
@@ -41,5 +41,5 @@ pub tables_faults-loop-at-init : goal.tables_faults-loop-at-init
 tables_faults-loop-at-init t c =
     let items = c.deref-item-items.result.now in
     let many : c.len.result ≡ length items = c.len.ensures ∙ sym c.deref-item-items.ensures.len in
-    tables_begin c.args.path.now c.len.result items c.count_fault.new.faults c.args.faults.now c.args.shape c.args.bounds.0 c.args.bounds.1 c.args.value.now c.in-Array.items c.in-Array.is
+    tables_begin (place_path c.args.place) c.len.result items c.count_fault.new.faults c.args.faults.now c.args.shape c.args.bounds.0 c.args.bounds.1 c.args.value.now c.in-Array.items c.in-Array.is
     c.deref-item-items.ensures.value many c.in_ok-count_fault-in-Array.ensures

@@ -3,10 +3,11 @@ use Rattle.std.proofs.Common.{◌≡◌, ◌++◌, map}
 use Rattle.toml.specs.View.{table_view}
 use Rattle.stx_draft.specs.Schema.{key_of}
 use Rattle.stx_draft.specs.Walk.{unknown_faults}
+use Rattle.stx_draft.specs.inner.Places.{holder_path}
 use Rattle.stx_draft.proofs.WalkLaws.{unknown_names}
 use Rattle.stx_draft.proofs.walk.unknown_faults.Given as goal
 
 abbrev pub invariant-loop-key : goal.invariant-loop-key
 invariant-loop-key l =
-    l.faults ++ unknown_names (map key_of l.fields) l.path l.key-iterator
-    ≡ l.fn.faults ++ unknown_faults (map key_of l.fields) l.path (table_view l.table)
+    l.faults ++ unknown_names (map key_of l.fields) (holder_path l.holder) l.key-iterator
+    ≡ l.fn.faults ++ unknown_faults (map key_of l.fields) (holder_path l.holder) (table_view l.table)

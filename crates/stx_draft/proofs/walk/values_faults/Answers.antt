@@ -2,6 +2,7 @@
 use Rattle.std.proofs.Common.{◌≡◌, Some, length, sym, ap, ◌∙◌}
 use Rattle.toml.specs.Data.{as_array}
 use Rattle.toml.specs.View.{view, items_view}
+use Rattle.stx_draft.specs.inner.Places.{place_path}
 use Rattle.stx_draft.proofs.WalkLaws.{values_begin}
 use Rattle.stx_draft.proofs.walk.values_faults.Goals as goal
 
@@ -10,4 +11,4 @@ returns c =
     let items = c.deref.result.now in
     let is : Some (items_view items) ≡ as_array (view c.args.value.now) = ap (λ vs. Some (items_view vs)) c.deref.ensures.value ∙ c.in-Some.ensures in
     let many : c.len.result ≡ length items = c.len.ensures ∙ sym c.deref.ensures.len in
-    rw (← values_begin c.args.path.now c.len.result items c.count_fault.new.faults c.args.faults.now c.args.leaf c.args.most (view c.args.value.now) is many c.in_ok-count_fault.ensures) c.items_faults.ensures
+    rw (← values_begin (place_path c.args.place) c.len.result items c.count_fault.new.faults c.args.faults.now c.args.leaf c.args.most (view c.args.value.now) is many c.in_ok-count_fault.ensures) (rw (c.as_str.ensures, c.in_ok-path.ensures) at c.items_faults.ensures)

@@ -1,0 +1,3 @@
+-- Words of this crate's own functions; no caller needs them.
+pub mod Growing
+pub mod Places
