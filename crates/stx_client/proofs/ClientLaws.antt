@@ -21,12 +21,12 @@ use Rattle.stx_machine.specs.declared.stage.Place.{Place}
 use Rattle.stx_machine.specs.declared.stage.Stage.{Stage}
 use Rattle.stx_machine.specs.declared.tokens.Tokens.{Tokens}
 use Rattle.stx_context.specs.Carrying.{Carried}
-use Rattle.stx_machine.specs.Machine.{Call, Goes, context_at, falls, has_failed, later_calls, piece, resume, run, stack, state_at, want_of}
+use Rattle.stx_machine.specs.Machine.{Call, Goes, context_at, falls, has_failed, later_calls, piece, unwound, run, stack, state_at, want_of}
 use Rattle.stx_steps.specs.Steps.{Hears}
 use Rattle.stx_machine.specs.Sound.{IsSound, StageFits}
 use Rattle.stx_machine.proofs.Growth.{run_starts, run_stops}
 use Rattle.stx_client.specs.View.{ClientView, script_of, has_told, with_note, fed}
-use Rattle.stx_client.specs.inner.Keeps.{GoesOn, IsWaiting, Keeps, RunsOn, held_if, run_with}
+use Rattle.stx_client.specs.inner.Keeps.{GoesOn, IsWaiting, Keeps, RunsOn, held_while, run_with}
 
 -- ---- what is left of the script
 
@@ -41,7 +41,7 @@ run_stays : (S : Scenario) (n : ℕ) (before after : Machine) → after.lines.it
 run_stays S n before after said calls rest pool store =
     let at : List Line → List Call → Outcome =
     λ lines frames.
-    later_calls S n before.top (resume S (reverse frames) (piece S (reverse frames) before.stage
+    later_calls S n before.top (unwound S (reverse frames) (piece S (reverse frames) before.stage
     (record { lines = lines; context = context_at before.stage before.context; local = before.local; pool = pool; store = store }))) in
     sym (ap (λ m. run S n m pool store) rest ∙ (λ k. at (said k) (calls k)))
 
@@ -180,7 +180,7 @@ module _ {S : Scenario} {n : ℕ} {m : Machine} {pool : List PoolNote} {store : 
 
   pub want_is : (w : Want) → want_of m.stage ≡ w → stop_of (script_of client) ≡ Some w
   want_is w is =
-      ap (λ v. stop_of (script_of v)) (sym view) ∙ ap stop_of (stops_now S n m pool store (keeps.runs going) (held_if out m.stage) (keeps.waiting going)) ∙ ap Some is
+      ap (λ v. stop_of (script_of v)) (sym view) ∙ ap stop_of (stops_now S n m pool store (keeps.runs going) (held_while out m.stage) (keeps.waiting going)) ∙ ap Some is
 
   pub out_is : (reply : Reply) → is_reply client.out reply ≡ true → out ≡ true
   out_is reply is = by_out out (ap (λ v. is_reply v.out reply) view ∙ is)

@@ -40,7 +40,7 @@ use Rattle.stx_machine.specs.declared.stage.Place.{Place}
 use Rattle.stx_machine.specs.declared.stage.Stage.{Stage}
 use Rattle.stx_machine.specs.declared.stage.Then.{Then}
 use Rattle.stx_machine.specs.declared.tokens.Tokens.{Tokens}
-use Rattle.stx_machine.specs.Machine.{Call, Goes, Moves, Says, Waits, Shrinks, accesses, attribute_of, begun, after_round, call_after, caller_rank, calls_at, completes, connects, course_after, does, falls, frame_after, has_failed, in_round, inside, last_told, later_calls, later_deeds, left, of_call, of_top, opened, phase_after, piece, pointed, publication_of, rest_after, rest_of, resume, resumes_call, round_after, rounds_call, row_access, run, scope_of, stack, state_at, statements, stops, tells, tells_resumed, thrown_of, told_after, untold, want_at, want_of, whole_round}
+use Rattle.stx_machine.specs.Machine.{Call, Goes, Moves, Says, Waits, Shrinks, accesses, attribute_of, begun, after_round, call_after, caller_rank, calls_at, completes, connects, course_after, does, falls, frame_after, has_failed, in_round, inside, last_told, later_calls, later_deeds, left, of_call, of_top, opened, phase_after, piece, pointed, publication_of, rest_after, rest_of, unwound, resumes_call, round_after, rounds_call, row_access, run, scope_of, stack, state_at, statements, stops, tells, tells_resumed, thrown_of, told_after, untold, want_at, want_of, whole_round}
 use Rattle.stx_machine.specs.Sound.{CallCompletes, CallOpens, CallPoints, IsSound, Standing, StageFits, standing_of}
 
 -- ---- accesses
@@ -163,8 +163,8 @@ module _ (S : Scenario) (first : Meaning) (steady : IsSteady first) where
       (and_then_steady first (callback S calls body) steady (callback_steady S calls (calls_below_steady S (caller_rank S fs)) body))
       (deals_steady S calls (calls_below_steady S (caller_rank S fs)) rest)
 
-resume_steady : (S : Scenario) (fs : List Call) (first : Meaning) → IsSteady first → IsSteady (λ st. resume S fs (first st))
-unfolding resume
+resume_steady : (S : Scenario) (fs : List Call) (first : Meaning) → IsSteady first → IsSteady (λ st. unwound S fs (first st))
+unfolding unwound
 resume_steady S [] first steady = steady
 resume_steady S (f ∷ fs) first steady = resume_steady S fs (λ st. frame_after S fs f (first st)) (frame_steady S first steady fs f)
 
@@ -227,10 +227,10 @@ piece_steady S fs (Stage.Dealing publication) = deals_steady S (calls_at S fs) (
 piece_steady S fs (Stage.Returning c x) = ask_steady (Want.Give c) (λ _. concludes x) (λ n. concludes_steady x)
 piece_steady S fs stage = of_top_steady S fs stage
 
-run_steady : (S : Scenario) (n top : ℕ) (fs : List Call) (stage : Stage) → IsSteady (λ st. later_calls S n top (resume S fs (piece S fs stage st)))
+run_steady : (S : Scenario) (n top : ℕ) (fs : List Call) (stage : Stage) → IsSteady (λ st. later_calls S n top (unwound S fs (piece S fs stage st)))
 run_steady S n top fs stage =
     let later = drop (top + 1) (calls_of S n) in
-    finally_steady (λ st. resume S fs (piece S fs stage st)) (λ _. tops S (top + 1) later) (resume_steady S fs (piece S fs stage) (piece_steady S fs stage))
+    finally_steady (λ st. unwound S fs (piece S fs stage st)) (λ _. tops S (top + 1) later) (resume_steady S fs (piece S fs stage) (piece_steady S fs stage))
     (λ _. tops_steady S (top + 1) later)
 
 -- no line is taken back
@@ -272,10 +272,10 @@ frame_stops S fs (Frame.Body m place catch (Some i)) w st = ap (λ r. finally r 
 frame_stops S fs (Frame.Round round todo at place x) w st = round_stops S todo at place fs w st
 frame_stops S fs (Frame.Now listener place) w st = refl
 
-resume_stops : (S : Scenario) (fs : List Call) (w : Want) (st : State) → resume S fs (Stops w st) ≡ Stops w st
-unfolding resume
+resume_stops : (S : Scenario) (fs : List Call) (w : Want) (st : State) → unwound S fs (Stops w st) ≡ Stops w st
+unfolding unwound
 resume_stops S [] w st = refl
-resume_stops S (f ∷ fs) w st = ap (resume S fs) (frame_stops S fs f w st) ∙ resume_stops S fs w st
+resume_stops S (f ∷ fs) w st = ap (unwound S fs) (frame_stops S fs f w st) ∙ resume_stops S fs w st
 
 -- with no note to come
 abbrev still : List Line → Context → Option Bool → State
@@ -371,6 +371,6 @@ pub run_stops : (S : Scenario) (n : ℕ) (m : Machine) (tokens : Tokens) → IsS
     → run S n m [] [] ≡ Stops (want_of m.stage) (state_at m [] [])
 run_stops S n m tokens sound waits going =
     let st = state_at m [] [] in
-    ap (λ r. later_calls S n m.top (resume S (stack m.frames) r))
+    ap (λ r. later_calls S n m.top (unwound S (stack m.frames) r))
     (piece_stops S m.lines.items st.context m.local (stack m.frames) m.stage m.context sound.stage waits going)
     ∙ ap (later_calls S n m.top) (resume_stops S (stack m.frames) (want_of m.stage) st)

@@ -11,7 +11,7 @@ use Rattle.stx_base.specs.declared.history.StoreNote.{StoreNote}
 use Rattle.stx_model.specs.Contexts.{Live, bare}
 use Rattle.stx_model.specs.Meanings.{State, Result, Meaning}
 use Rattle.stx_model.specs.Scopes.{live_in, resumed}
-use Rattle.stx_model.specs.Scopes.{resume as resume_scope}
+use Rattle.stx_model.specs.Scopes.{resume}
 use Rattle.stx_context.specs.Carrying.{Carried, context_of}
 use Rattle.stx_machine.specs.declared.interception.Interception.{Interception}
 use Rattle.stx_machine.specs.declared.interception.Phase.{Phase}
@@ -19,7 +19,7 @@ use Rattle.stx_machine.specs.Sound.{Standing, OpensIn, PointsIn, RunsIn}
 use Rattle.stx_machine.specs.declared.machine.Machine.{Machine}
 use Rattle.stx_machine.specs.declared.stage.Stage.{Stage}
 use Rattle.stx_scenario.specs.declared.scenario.Scenario.{Scenario}
-use Rattle.stx_machine.specs.Machine.{Call, IsPushed, HasTransaction, stack, resume, frame_after, piece, state_with, context_at, later_calls, run}
+use Rattle.stx_machine.specs.Machine.{Call, IsPushed, HasTransaction, stack, unwound, frame_after, piece, state_with, context_at, later_calls, run}
 
 -- a call on top
 pub pushed : (old new : Room Call) (f : Call) → new.items ≡ old.items ++ f ∷ [] → stack new ≡ f ∷ stack old
@@ -36,16 +36,16 @@ popped old new None is = ap reverse (is ∙ append-nil new.items)
 
 -- what a pushed call means
 pub resume_pushed : (S : Scenario) (old new : Room Call) (f : Call) (r : Result) → new.items ≡ old.items ++ f ∷ []
-    → resume S (stack old) (frame_after S (stack old) f r) ≡ resume S (stack new) r
-unfolding resume
-resume_pushed S old new f r is = ap (λ fs. resume S fs r) (sym (pushed old new f is))
+    → unwound S (stack old) (frame_after S (stack old) f r) ≡ unwound S (stack new) r
+unfolding unwound
+resume_pushed S old new f r is = ap (λ fs. unwound S fs r) (sym (pushed old new f is))
 
 -- a call on top, at a stage
 pub put_on : (S : Scenario) (n : ℕ) (m after : Machine) (call : Call) (stage : Stage) (pool : List PoolNote) (store : List StoreNote) → IsPushed m call after
     → (let st = state_with m (context_at stage m.context) pool store in
-    later_calls S n m.top (resume S (call ∷ stack m.frames) (piece S (call ∷ stack m.frames) stage st)) ≡ run S n (record after { stage = stage }) pool store)
+    later_calls S n m.top (unwound S (call ∷ stack m.frames) (piece S (call ∷ stack m.frames) stage st)) ≡ run S n (record after { stage = stage }) pool store)
 put_on S n m after call stage pool store is =
-    ap (λ fs. later_calls S n m.top (resume S fs (piece S fs stage (state_with m (context_at stage m.context) pool store)))) (sym (pushed m.frames after.frames call is.frames))
+    ap (λ fs. later_calls S n m.top (unwound S fs (piece S fs stage (state_with m (context_at stage m.context) pool store)))) (sym (pushed m.frames after.frames call is.frames))
     ∙ ap (λ z. run S n (record z { stage = stage }) pool store) (sym is.rest)
 
 -- the transaction that is live
@@ -85,7 +85,7 @@ points_only i (Phase.Completing rest x) points = absurd points
 points_only i (Phase.Round course) points = absurd points
 
 -- what was suspended is there
-pub resumes_some : (older : Option Carried) (st : State) → IsSome older → resume_scope (unwrap_or (option_map context_of older) bare) st ≡ resumed (option_map context_of older) st
+pub resumes_some : (older : Option Carried) (st : State) → IsSome older → resume (unwrap_or (option_map context_of older) bare) st ≡ resumed (option_map context_of older) st
 resumes_some (Some carried) st is = refl
 resumes_some None st is = cc
 

@@ -37,7 +37,7 @@ use Rattle.stx_model.specs.Meanings.{State, Result, Over, Stops, Breaks, Meaning
 use Rattle.stx_model.specs.Opening.{opening}
 use Rattle.stx_model.specs.Rounds.{Calls, Proxied, callback, callback_line, stopping_round, swallowing_round, swallows, sync_body}
 use Rattle.stx_model.specs.Scopes.{Scope, leaves, acts, ends, begins, opens, fresh_context, in_scope, empty, later_or, live_in, older_if, resumed, ruled, say_each, say_unbind, started_syncs, suspend, suspended, within}
-use Rattle.stx_model.specs.Scopes.{completes as completes_so, resume as resume_scope}
+use Rattle.stx_model.specs.Scopes.{completes as completes_so, resume}
 use Rattle.stx_model.specs.Script.{body, unscoped, invoked, calls_below, deals, tops, calls_of}
 use Rattle.stx_model.specs.Statements.{RowAccess, register_listener, throws, concludes, caught, is_value, unless_busy, access_row, nothing_more, needed, added, in_transaction, on_connection}
 use Rattle.stx_context.specs.Carrying as carrying
@@ -325,9 +325,9 @@ frame_after S fs (Frame.Round round todo at place x) r = round_after S todo at p
 frame_after S fs (Frame.Now listener place) r = now_after S (calls_at S fs) listener place r
 
 -- the call under way after a piece of its innermost frame that came to r
-unfoldable pub resume : Scenario → List Call → Result → Result
-resume S [] r = r
-resume S (f ∷ fs) r = resume S fs (frame_after S fs f r)
+unfoldable pub unwound : Scenario → List Call → Result → Result
+unwound S [] r = r
+unwound S (f ∷ fs) r = unwound S fs (frame_after S fs f r)
 
 -- ---- stages
 
@@ -413,7 +413,7 @@ tops_from S n top st = tops S top (drop top (calls_of S n)) st
 
 -- what is left of the script of client n
 abbrev pub run : Scenario → ℕ → Machine → List PoolNote → List StoreNote → Result
-run S n m pool store = later_calls S n m.top (resume S (stack m.frames) (piece S (stack m.frames) m.stage (state_at m pool store)))
+run S n m pool store = later_calls S n m.top (unwound S (stack m.frames) (piece S (stack m.frames) m.stage (state_at m pool store)))
 
 -- ---- steps
 
@@ -422,7 +422,7 @@ run S n m pool store = later_calls S n m.top (resume S (stack m.frames) (piece S
 abbrev pub ComesTo : Scenario → ℕ → Machine → Meaning → Machine → Type 0
 ComesTo S n before meaning after =
     (pool : List PoolNote) (store : List StoreNote)
-    → later_calls S n before.top (resume S (stack before.frames) (meaning (state_before before pool store))) ≡ run S n after pool store
+    → later_calls S n before.top (unwound S (stack before.frames) (meaning (state_before before pool store))) ≡ run S n after pool store
 
 -- whichever the client is
 abbrev pub Comes : Scenario → Machine → Meaning → Machine → Type 0
@@ -456,8 +456,8 @@ abbrev pub ends_access : Place → Option ClassNo → Meaning
 ends_access place = (row_access place).ends
 
 -- after the answer to an access
-abbrev pub answered : Place → Then → Answer → Meaning
-answered place d answer = unless_busy (row_access place) (does (row_access place) d) answer
+abbrev pub row_answered : Place → Then → Answer → Meaning
+row_answered place d answer = unless_busy (row_access place) (does (row_access place) d) answer
 
 -- the sum, if it is a value
 abbrev pub sum_of : ℤ → ℤ → Option ℤ
@@ -585,7 +585,7 @@ with_syncs_started owns context = record { tx = context.tx; syncs = started_sync
 
 -- this is carried again, and its connection is bound; its registrations are still to be told
 pub record Resumes (before : Machine) (older : Carried) (after : Machine) : Type 0 where
-  pub state : (pool : List PoolNote) (store : List StoreNote) → resume_scope (context_of older) (state_before before pool store) ≡ tells_resumed (state_before after pool store)
+  pub state : (pool : List PoolNote) (store : List StoreNote) → resume (context_of older) (state_before before pool store) ≡ tells_resumed (state_before after pool store)
   pub rest : after ≡ record before { context = older; lines = after.lines }
   pub room : before.lines.spare ≤ after.lines.spare + 1
   pub longer : length before.lines.items ≤ length after.lines.items
@@ -621,8 +621,8 @@ abbrev pub told_by : Scenario → Stage → Context → List Registration
 told_by S stage context = elim (tells_all S stage context) [ true ↦ ordered (registered context.syncs) | false ↦ [] ]
 
 -- there is room for one registration more, where synchronisation is active
-abbrev pub HasRoom : Carried → Type 0
-HasRoom carried = IfSome carried.syncs (λ r. 1 ≤ r.spare)
+abbrev pub HasRegistryRoom : Carried → Type 0
+HasRegistryRoom carried = IfSome carried.syncs (λ r. 1 ≤ r.spare)
 
 -- ---- completion
 

@@ -315,7 +315,7 @@ ScopeRuns S standing m None = ⊤
 ScopeRuns S standing m (Some i) = IsIntercepted S m i.scope.owns standing.syncs × RunsIn standing i i.phase
 
 -- the callbacks of a round: of those that were registered, and so many of them were told
-pub record IsTold (S : Scenario) (m : MethodNo) (todo : List Registered) (at : ℕ) : Type 0 where
+pub record IsPartTold (S : Scenario) (m : MethodNo) (todo : List Registered) (at : ℕ) : Type 0 where
   pub below : RegisteredBelow S (rank S m) (map registration todo)
   pub few : length todo < 2 ^ 32
   pub within : at ≤ length todo
@@ -335,7 +335,7 @@ CallsRun S standing [] = standing ≡ nothing
 CallsRun S standing (Frame.Body m place catch scope ∷ fs) =
     IsCall S (caller_rank S fs) m catch × ScopeRuns S standing m scope × CallsRun S (below_call scope standing) fs
 CallsRun S standing (Frame.Round round todo at place x ∷ Frame.Body m statement catch (Some i) ∷ fs) =
-    IsCall S (caller_rank S fs) m catch × IsIntercepted S m (owns_in i.scope i.phase) standing.syncs × RoundsIn S standing i i.phase × IsTold S m todo at
+    IsCall S (caller_rank S fs) m catch × IsIntercepted S m (owns_in i.scope i.phase) standing.syncs × RoundsIn S standing i i.phase × IsPartTold S m todo at
     × CallsRun S (below_phase i.scope i.phase standing) fs
 CallsRun S standing (Frame.Now listener place ∷ fs) =
     ListenerBelow S (caller_rank S fs) listener × DeedsBelow S (caller_rank S fs) (later_deeds S (publication_of S listener)) × IsBody fs × CallsRun S standing fs

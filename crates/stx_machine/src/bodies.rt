@@ -7,7 +7,7 @@ ghost use Rattle.stx_model.specs.Below.{SyncBelow};
 ghost use Rattle.stx_model.specs.Statements.{value_of as value_in, added, concludes, marks, needed, order_of as order_in, register_sync, throws};
 ghost use Rattle.stx_model.specs.Playable.{IsPlayable};
 ghost use Rattle.stx_machine.specs.Sound.{Leaves, no_tokens, held_at, rank_at};
-ghost use Rattle.stx_machine.specs.Machine.{Comes, HasRoom, IsClass, IsLonger, MovesLines, access_in, accesses, answered, ends_access, falls, row_access, row_statement_of, sum_of};
+ghost use Rattle.stx_machine.specs.Machine.{Comes, HasRegistryRoom, IsClass, IsLonger, MovesLines, access_in, accesses, row_answered, ends_access, falls, row_access, row_statement_of, sum_of};
 
 use crate::machine::Machine;
 use crate::setup::Setup;
@@ -105,7 +105,7 @@ impl Machine {
     /// Registers a synchronisation, where synchronisation is active.
     pub fn register(&mut self, setup: &Setup, sync: SyncNo)
         requires lines { 1 ≤ self.old.lines.spare }
-        requires registry { HasRoom self.old.context }
+        requires registry { HasRegistryRoom self.old.context }
         ensures goes { Comes setup.now.scenario self.old (register_sync setup.now.scenario sync) self.new }
         ensures longer { IsLonger self.old self.new }
         ensures sound { IsPlayable setup.now.scenario → SyncBelow setup.now.scenario (rank_at setup.now.scenario self.old) sync → Leaves setup.now.scenario self.old no_tokens self.new }
@@ -154,7 +154,7 @@ impl Machine {
     /// Goes on after the answer to a statement's access.
     pub fn answer(&mut self, place: Place, then: Then, answer: Answer)
         requires room { 1 ≤ self.old.lines.spare }
-        ensures goes { (S : ScenarioData) → Comes S self.old (answered place then answer) self.new }
+        ensures goes { (S : ScenarioData) → Comes S self.old (row_answered place then answer) self.new }
         ensures sound { (S : ScenarioData) → IsPlayable S → Leaves S self.old (held_at place) self.new }
         ensures longer { MovesLines self.old self.new }
     {

@@ -40,7 +40,7 @@ use Rattle.stx_machine.specs.declared.stage.Place.{Place}
 use Rattle.stx_machine.specs.declared.stage.Stage.{Stage}
 use Rattle.stx_machine.specs.declared.stage.Then.{Then}
 use Rattle.stx_machine.specs.declared.tokens.Tokens.{Tokens}
-use Rattle.stx_machine.specs.Machine.{Call, Goes, Moves, Says, Waits, Shrinks, accesses, attribute_of, begun, after_round, call_after, caller_rank, calls_at, completes, connects, course_after, does, falls, frame_after, has_failed, in_round, inside, last_told, later_calls, later_deeds, left, of_call, of_top, opened, phase_after, piece, pointed, publication_of, rest_after, rest_of, resume, resumes_call, round_after, rounds_call, row_access, run, scope_of, stack, state_at, statements, stops, tells, tells_resumed, thrown_of, told_after, untold, want_at, want_of, whole_round}
+use Rattle.stx_machine.specs.Machine.{Call, Goes, Moves, Says, Waits, Shrinks, accesses, attribute_of, begun, after_round, call_after, caller_rank, calls_at, completes, connects, course_after, does, falls, frame_after, has_failed, in_round, inside, last_told, later_calls, later_deeds, left, of_call, of_top, opened, phase_after, piece, pointed, publication_of, rest_after, rest_of, unwound, resumes_call, round_after, rounds_call, row_access, run, scope_of, stack, state_at, statements, stops, tells, tells_resumed, thrown_of, told_after, untold, want_at, want_of, whole_round}
 use Rattle.stx_machine.specs.Sound.{CallCompletes, CallOpens, CallPoints, IsSound, Standing, StageFits, standing_of}
 use Rattle.stx_machine.proofs.Growth.{run_starts}
 

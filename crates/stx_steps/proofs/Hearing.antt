@@ -27,7 +27,7 @@ use Rattle.stx_machine.specs.declared.stage.Bound.{Bound}
 use Rattle.stx_machine.specs.declared.stage.Place.{Place}
 use Rattle.stx_machine.specs.declared.stage.Stage.{Stage}
 use Rattle.stx_machine.specs.declared.stage.Then.{Then}
-use Rattle.stx_machine.specs.Machine.{Call, accesses, context_at, later_calls, piece, resume, run, stack, answered, want_at, row_access, does, completes, inside, scope_of, rest_of, thrown_of, of_top, pointed}
+use Rattle.stx_machine.specs.Machine.{Call, accesses, context_at, later_calls, piece, unwound, run, stack, row_answered, want_at, row_access, does, completes, inside, scope_of, rest_of, thrown_of, of_top, pointed}
 use Rattle.stx_machine.proofs.Standings.{resumption_is}
 use Rattle.stx_steps.specs.Steps.{before_line, finds_none, starts, starts_pointed}
 use Rattle.stx_machine.specs.Sound.{CallCompletes, CallOpens, CallPoints, GivesLast, Standing, is_resumption}
@@ -64,14 +64,14 @@ module _ (S : Scenario) (lines : List Line) (context : Context) (local : Option 
   said line = record { lines = lines ++ line ∷ []; context = context; local = local; pool = pool; store = store }
 
   pub heard_access : (place : Place) (a : Access) (d : Then) (u : ℕ) (b : Access) (r : Answer) → store_answers (want_at place a) (StoreNote.Access u b r) ≡ true
-      → accesses place a d (before pool (StoreNote.Access u b r ∷ store)) ≡ answered place d r (said (Line.Row u b r))
+      → accesses place a d (before pool (StoreNote.Access u b r ∷ store)) ≡ row_answered place d r (said (Line.Row u b r))
   heard_access (Place.Transaction t) a d u b r is =
       asked (Want.Access t a) (on_access (unless_busy (row_access (Place.Transaction t)) (does (row_access (Place.Transaction t)) d))) (before pool (StoreNote.Access u b r ∷ store))
       (Note.Store (StoreNote.Access u b r)) true refl is
   heard_access (Place.Connection c) a d u b r is = absurd (false≢true is)
 
   pub heard_auto : (place : Place) (a : Access) (d : Then) (b : Access) (r : Answer) → store_answers (want_at place a) (StoreNote.Auto b r) ≡ true
-      → accesses place a d (before pool (StoreNote.Auto b r ∷ store)) ≡ answered place d r (said (Line.Auto b r))
+      → accesses place a d (before pool (StoreNote.Auto b r ∷ store)) ≡ row_answered place d r (said (Line.Auto b r))
   heard_auto (Place.Connection c) a d b r is =
       asked (Want.Auto a) (on_access (unless_busy (row_access (Place.Connection c)) (does (row_access (Place.Connection c)) d))) (before pool (StoreNote.Auto b r ∷ store))
       (Note.Store (StoreNote.Auto b r)) true refl is
@@ -177,16 +177,16 @@ module _ (S : Scenario) (n : ℕ) (m : Machine) (lines : List Line) (stage : Sta
   -- where the piece, with this note to come, means this after the note's line, it is what is left after it
   pub hears_pool : (note heard : PoolNote) → note ≡ heard → m.lines.items ≡ lines ++ pool_line note ∷ []
       → piece S (stack m.frames) stage (begins_at (heard ∷ pool) store) ≡ meaning (goes_to (lines ++ pool_line heard ∷ []))
-      → run S n (before_line m lines) (note ∷ pool) store ≡ later_calls S n m.top (resume S (stack m.frames) (meaning (goes_to m.lines.items)))
+      → run S n (before_line m lines) (note ∷ pool) store ≡ later_calls S n m.top (unwound S (stack m.frames) (meaning (goes_to m.lines.items)))
   hears_pool note heard same line goes =
       (λ k. run S n (record (before_line m lines) { stage = is k }) (same k ∷ pool) store)
-      ∙ ap (λ r. later_calls S n m.top (resume S (stack m.frames) r)) goes
-      ∙ ap (λ said. later_calls S n m.top (resume S (stack m.frames) (meaning (goes_to said)))) (ap (λ p. lines ++ pool_line p ∷ []) (sym same) ∙ sym line)
+      ∙ ap (λ r. later_calls S n m.top (unwound S (stack m.frames) r)) goes
+      ∙ ap (λ said. later_calls S n m.top (unwound S (stack m.frames) (meaning (goes_to said)))) (ap (λ p. lines ++ pool_line p ∷ []) (sym same) ∙ sym line)
 
   pub hears_store : (note heard : StoreNote) → note ≡ heard → m.lines.items ≡ lines ++ store_line note ∷ []
       → piece S (stack m.frames) stage (begins_at pool (heard ∷ store)) ≡ meaning (goes_to (lines ++ store_line heard ∷ []))
-      → run S n (before_line m lines) pool (note ∷ store) ≡ later_calls S n m.top (resume S (stack m.frames) (meaning (goes_to m.lines.items)))
+      → run S n (before_line m lines) pool (note ∷ store) ≡ later_calls S n m.top (unwound S (stack m.frames) (meaning (goes_to m.lines.items)))
   hears_store note heard same line goes =
       (λ k. run S n (record (before_line m lines) { stage = is k }) pool (same k ∷ store))
-      ∙ ap (λ r. later_calls S n m.top (resume S (stack m.frames) r)) goes
-      ∙ ap (λ said. later_calls S n m.top (resume S (stack m.frames) (meaning (goes_to said)))) (ap (λ p. lines ++ store_line p ∷ []) (sym same) ∙ sym line)
+      ∙ ap (λ r. later_calls S n m.top (unwound S (stack m.frames) r)) goes
+      ∙ ap (λ said. later_calls S n m.top (unwound S (stack m.frames) (meaning (goes_to said)))) (ap (λ p. lines ++ store_line p ∷ []) (sym same) ∙ sym line)

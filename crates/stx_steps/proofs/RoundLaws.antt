@@ -42,9 +42,9 @@ use Rattle.stx_steps.specs.declared.rounds.Telling.{Telling}
 use Rattle.stx_machine.specs.declared.interception.Phase.{Phase}
 use Rattle.stx_machine.specs.declared.stage.Stage.{Stage}
 use Rattle.stx_machine.specs.declared.stage.Then.{Then}
-use Rattle.stx_machine.specs.Machine.{AreTold, IsClass, access_in, course_after, later_calls, put_back, row_in, run, state_before, whole_round, callback_of, last_told, left_round, listener_callback, rest_after, resume, stack, status, stops, tells, told_after, untold, caller_rank, later_deeds, now_after, publication_of}
+use Rattle.stx_machine.specs.Machine.{AreTold, IsClass, access_in, course_after, later_calls, put_back, row_in, run, state_before, whole_round, callback_of, last_told, left_round, listener_callback, rest_after, unwound, stack, status, stops, tells, told_after, untold, caller_rank, later_deeds, now_after, publication_of}
 use Rattle.stx_steps.specs.Steps.{IsToldOn, round_frame, begins_callback, listener_runs, telling_after, IsNext, IsTelling, MayCallBack}
-use Rattle.stx_machine.specs.Sound.{CallsRun, IsApart, IsAtRound, IsCall, IsTold, IsWithin, Shelters, Standing, below_rest, below_round, bond_of, due_after, due_in, due_told, ends_after, ends_syncs, is_due, no_tokens, rank_at, releases, standing_of, standing_under, without_own}
+use Rattle.stx_machine.specs.Sound.{CallsRun, IsApart, IsAtRound, IsCall, IsPartTold, IsWithin, Shelters, Standing, below_rest, below_round, bond_of, due_after, due_in, due_told, ends_after, ends_syncs, is_due, no_tokens, rank_at, releases, standing_of, standing_under, without_own}
 use Rattle.stx_machine.proofs.Endings.{refused_releases, refused_ends}
 use Rattle.stx_model.proofs.Callable.{by_order_all}
 use Rattle.stx_machine.proofs.RowLaws.{row_is}
@@ -54,13 +54,13 @@ use Rattle.stx_machine.proofs.Places.{all_at, drop_at, drop_past}
 
 -- what a round means that was put back on top, with the call that it is part of
 pub resume_told : (S : Scenario) (before : Machine) (t : Telling) (after : Machine) (r : Result) → IsToldOn before t after
-    → resume S (stack before.frames) (telling_after S t r) ≡ resume S (stack after.frames) r
-unfolding resume
-resume_told S before t after r is = ap (λ fs. resume S fs r) (sym is.frames)
+    → unwound S (stack before.frames) (telling_after S t r) ≡ unwound S (stack after.frames) r
+unfolding unwound
+resume_told S before t after r is = ap (λ fs. unwound S fs r) (sym is.frames)
 
 -- before the next callback, or before the first
 pub told_on : (S : Scenario) (n : ℕ) (before : Machine) (t : Telling) (after : Machine) (pool : List PoolNote) (store : List StoreNote) → IsToldOn before t after
-    → later_calls S n before.top (resume S (stack before.frames) (telling_after S t (Over None (state_before before pool store))))
+    → later_calls S n before.top (unwound S (stack before.frames) (telling_after S t (Over None (state_before before pool store))))
     ≡ run S n (record after { stage = Stage.Over None }) pool store
 told_on S n before t after pool store is =
     ap (later_calls S n before.top) (resume_told S before t after (Over None (state_before before pool store)) is)
@@ -182,7 +182,7 @@ pub last_was_told : (S : Scenario) (calls : Calls) (course : Course) (todo : Lis
 last_was_told S calls course todo at st past =
     ap (λ rs. tells S calls course.round course.committed (map registration rs) st) (drop_past todo at past) ∙ tells_none S calls course.committed course.round st
 
-pub one_more_told : (S : Scenario) (m : MethodNo) (todo : List Registered) (at : ℕ) (r : Registered) → slice_get todo at ≡ Some r → IsTold S m todo at → IsTold S m todo (at + 1)
+pub one_more_told : (S : Scenario) (m : MethodNo) (todo : List Registered) (at : ℕ) (r : Registered) → slice_get todo at ≡ Some r → IsPartTold S m todo at → IsPartTold S m todo (at + 1)
 one_more_told S m todo at r there told =
     let within = slice_get_within todo at r there in record { below = told.below; few = told.few; within = omega (arith, within) }
 

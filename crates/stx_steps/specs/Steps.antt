@@ -39,7 +39,7 @@ use Rattle.stx_base.specs.Limits.{most_calls}
 use Rattle.stx_machine.specs.declared.tokens.Tokens.{Tokens}
 use Rattle.stx_steps.specs.declared.rounds.Telling.{Telling}
 use Rattle.stx_machine.specs.Machine.{does, inside, attribute_of, statements, opened, pointed, begun, Call, stack, completes, after_round, tells, untold, course_after, later_deeds, piece, state_before, run, IsClass, put_back, IsIntercepting}
-use Rattle.stx_machine.specs.Sound.{no_tokens, runs, Standing, nothing, standing_of, due_told, IsCall, IsIntercepted, IsTold, DeedsBelow, CallCompletes}
+use Rattle.stx_machine.specs.Sound.{no_tokens, runs, Standing, nothing, standing_of, due_told, IsCall, IsIntercepted, IsPartTold, DeedsBelow, CallCompletes}
 
 -- ---- what a small step deals with
 
@@ -127,7 +127,7 @@ pub record IsInRound (S : Scenario) (k : ℕ) (c : Intercepted) (standing : Stan
 -- a round that was taken off, with the call that it is part of
 pub record IsTelling (S : Scenario) (k : ℕ) (t : Telling) (standing : Standing) : Type 0 where
   pub round : IsInRound S k t.call standing t.course
-  pub told : IsTold S t.call.method t.todo t.at
+  pub told : IsPartTold S t.call.method t.todo t.at
 
 -- ---- statements and callbacks
 

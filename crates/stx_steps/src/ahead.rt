@@ -5,7 +5,7 @@ ghost use Rattle.stx_model.specs.Playable.{IsPlayable};
 ghost use Rattle.stx_events.specs.Deeds.{deed_of};
 ghost use Rattle.stx_context.specs.Carrying.{context_of};
 ghost use Rattle.stx_sync.specs.Registries.{registration};
-ghost use Rattle.stx_machine.specs.Machine.{HasRoom, suspends as suspends_in, tells_all, told_by};
+ghost use Rattle.stx_machine.specs.Machine.{HasRegistryRoom, suspends as suspends_in, tells_all, told_by};
 ghost use Rattle.stx_steps.specs.Steps.{CanPrepare, deed_by};
 
 use crate::publications::next_deed;
@@ -40,7 +40,7 @@ pub(crate) fn prepare(
     ensures few { IfOk result (λ ahead. length ahead.told < 2 ^ 32) }
     ensures lines { IfOk result (λ ahead. length ahead.told + 4 ≤ machine.new.lines.spare) }
     ensures frames { OnOk result (1 ≤ machine.new.frames.spare) }
-    ensures registry { OnOk result (HasRoom machine.new.context) }
+    ensures registry { OnOk result (HasRegistryRoom machine.new.context) }
     ensures said { machine.new.lines.items ≡ machine.old.lines.items }
     ensures calls { machine.new.frames.items ≡ machine.old.frames.items }
     ensures context { context_of machine.new.context ≡ context_of machine.old.context }
@@ -103,7 +103,7 @@ fn tells(machine: &Machine, setup: &Setup) -> bool
 fn reserve_registration(machine: &mut Machine, alloc: Global) -> Result<(), NoMemory>
     ensures context { context_of machine.new.context ≡ context_of machine.old.context }
     ensures tx { machine.new.context.tx ≡ machine.old.context.tx }
-    ensures room { OnOk result (HasRoom machine.new.context) }
+    ensures room { OnOk result (HasRegistryRoom machine.new.context) }
     ensures rest { machine.new ≡ record machine.old { context = machine.new.context } }
 {
     match machine.context.registry() {

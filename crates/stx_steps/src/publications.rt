@@ -15,7 +15,7 @@ ghost use Rattle.stx_context.specs.Carrying.{context_of};
 ghost use Rattle.stx_events.specs.Deeds.{deed_of};
 ghost use Rattle.stx_machine.specs.declared.stage.Publication.{Publication as PublicationData};
 ghost use Rattle.stx_machine.specs.declared.stage.Stage.{Stage as StageData};
-ghost use Rattle.stx_machine.specs.Machine.{Comes, HasRoom, IsClass, IsLonger, Moves, MovesOn, calls_at, event_of as event_in, listener_of as listener_in, dealt, deeds_after, later_deeds, later_than, now_after, publication_of, registers_one, runs_one, stack};
+ghost use Rattle.stx_machine.specs.Machine.{Comes, HasRegistryRoom, IsClass, IsLonger, Moves, MovesOn, calls_at, event_of as event_in, listener_of as listener_in, dealt, deeds_after, later_deeds, later_than, now_after, publication_of, registers_one, runs_one, stack};
 ghost use Rattle.stx_steps.specs.Steps.{first_deed, IsNext};
 ghost use Rattle.stx_machine.specs.Sound.{DeedsBelow, IsBody, IsSound, IsWithin, Leaves, held, no_tokens, rank_at};
 
@@ -167,7 +167,7 @@ pub(crate) fn deal(
     requires within { IsWithin setup.now.scenario machine.old no_tokens }
     requires lines { 1 ≤ machine.old.lines.spare }
     requires frames { 1 ≤ machine.old.frames.spare }
-    requires registry { HasRoom machine.old.context }
+    requires registry { HasRegistryRoom machine.old.context }
     ensures goes { Comes setup.now.scenario machine.old (deals setup.now.scenario (calls_at setup.now.scenario (stack machine.old.frames)) (later_deeds setup.now.scenario publication)) machine.new }
     ensures sound { IsSound setup.now.scenario machine.new (held machine.new.stage) }
     ensures moves { Moves 1 machine.old machine.new }
@@ -187,7 +187,7 @@ fn deal_with(machine: &mut Machine, setup: &Setup, publication: Publication, dee
     requires within { IsWithin setup.now.scenario machine.old no_tokens }
     requires lines { 1 ≤ machine.old.lines.spare }
     requires frames { 1 ≤ machine.old.frames.spare }
-    requires registry { HasRoom machine.old.context }
+    requires registry { HasRegistryRoom machine.old.context }
     ensures goes { Comes setup.now.scenario machine.old (deals setup.now.scenario (calls_at setup.now.scenario (stack machine.old.frames)) (later_deeds setup.now.scenario publication)) machine.new }
     ensures sound { IsSound setup.now.scenario machine.new (held machine.new.stage) }
     ensures longer { IsLonger machine.old machine.new }
@@ -214,7 +214,7 @@ fn register_listener(
 )
     requires playable { IsPlayable setup.now.scenario }
     requires lines { 1 ≤ machine.old.lines.spare }
-    requires registry { HasRoom machine.old.context }
+    requires registry { HasRegistryRoom machine.old.context }
     ensures goes { Comes setup.now.scenario machine.old (registers_one setup.now.scenario (calls_at setup.now.scenario (stack machine.old.frames)) publication listener) machine.new }
     ensures sound { IsBody (stack machine.old.frames) → ListenerBelow setup.now.scenario (rank_at setup.now.scenario machine.old) listener → DeedsBelow setup.now.scenario (rank_at setup.now.scenario machine.old) (later_deeds setup.now.scenario (dealt publication listener)) → Leaves setup.now.scenario machine.old no_tokens machine.new }
     ensures longer { IsLonger machine.old machine.new }

@@ -10,7 +10,7 @@ ghost use Rattle.stx_context.specs.Carrying.{context_of};
 ghost use Rattle.stx_sync.specs.Registries.{registration};
 ghost use Rattle.stx_machine.specs.declared.interception.Phase.{Phase as PhaseData};
 ghost use Rattle.stx_machine.specs.declared.stage.Stage.{Stage as StageData};
-ghost use Rattle.stx_machine.specs.Machine.{Comes, ComesTo, Goes, HasRoom, IsClass, IsLonger, Moves, MovesLines, MovesOn, body_after, falls, inside, left, left_of, of_top, put_back, stack, told_by};
+ghost use Rattle.stx_machine.specs.Machine.{Comes, ComesTo, Goes, HasRegistryRoom, IsClass, IsLonger, Moves, MovesLines, MovesOn, body_after, falls, inside, left, left_of, of_top, put_back, stack, told_by};
 ghost use Rattle.stx_steps.specs.Steps.{deed_by, IsRounding, IsEndingCall, IsNext, MayMake};
 ghost use Rattle.stx_machine.specs.Sound.{IsApart, IsBody, IsCall, IsSound, IsWithin, ScopeRuns, below_call, held, no_tokens, rank_at, standing_of};
 
@@ -78,7 +78,7 @@ fn step(machine: &mut Machine, alloc: Global, setup: &Setup, number: u32, ahead:
     requires few { length ahead.told < 2 ^ 32 }
     requires lines { length ahead.told + 4 ≤ machine.old.lines.spare }
     requires frames { 1 ≤ machine.old.frames.spare }
-    requires registry { HasRoom machine.old.context }
+    requires registry { HasRegistryRoom machine.old.context }
     ensures goes { Goes setup.now.scenario number machine.old machine.new }
     ensures sound { IsSound setup.now.scenario machine.new (held machine.new.stage) }
     ensures moves { Moves (left machine.old) machine.old machine.new }
@@ -121,7 +121,7 @@ fn go_on(machine: &mut Machine, setup: &Setup, number: u32, thrown: Option<Class
     requires within { IsWithin setup.now.scenario machine.old no_tokens }
     requires lines { 3 ≤ machine.old.lines.spare }
     requires frames { 1 ≤ machine.old.frames.spare }
-    requires registry { HasRoom machine.old.context }
+    requires registry { HasRegistryRoom machine.old.context }
     ensures goes { ComesTo setup.now.scenario number machine.old (Over thrown) machine.new }
     ensures sound { IsSound setup.now.scenario machine.new (held machine.new.stage) }
     ensures moves { Moves (left_of (StageData.Over thrown) (stack machine.old.frames)) machine.old machine.new }
@@ -194,7 +194,7 @@ fn go_on_body(
     requires class { IsClass setup.now.scenario thrown }
     requires lines { 2 ≤ machine.old.lines.spare }
     requires frames { 2 ≤ machine.old.frames.spare }
-    requires registry { HasRoom machine.old.context }
+    requires registry { HasRegistryRoom machine.old.context }
     ensures goes { Comes setup.now.scenario machine.old (λ st. body_after setup.now.scenario method place catch scope (Over thrown st)) machine.new }
     ensures sound { IsSound setup.now.scenario machine.new (held machine.new.stage) }
     ensures moves { MovesOn machine.old machine.new }
@@ -233,7 +233,7 @@ fn make(machine: &mut Machine, setup: &Setup, caller: MethodNo, statement: Stmt)
     requires body { IsBody (stack machine.old.frames) }
     requires lines { 1 ≤ machine.old.lines.spare }
     requires frames { 1 ≤ machine.old.frames.spare }
-    requires registry { HasRoom machine.old.context }
+    requires registry { HasRegistryRoom machine.old.context }
     ensures goes { Comes setup.now.scenario machine.old (statement_in setup.now.scenario (inside setup.now.scenario caller) statement) machine.new }
     ensures sound { IsSound setup.now.scenario machine.new (held machine.new.stage) }
     ensures moves { MovesOn machine.old machine.new }

@@ -16,9 +16,9 @@ use Rattle.stx_model.specs.Playable.{IsPlayable}
 use Rattle.stx_machine.specs.Sound.{IsSound, held, held_out}
 
 -- a call that is out has taken along the token that it spends
-abbrev pub held_if : Bool → Stage → Tokens
-held_if true stage = held_out stage
-held_if false stage = held stage
+abbrev pub held_while : Bool → Stage → Tokens
+held_while true stage = held_out stage
+held_while false stage = held stage
 
 -- what a call brings isn't held yet
 abbrev pub Lacks : Want → Tokens → Type 0
@@ -49,7 +49,7 @@ pub record IsWaiting (S : Scenario) (m : Machine) (tokens : Tokens) : Type 0 whe
 pub record Keeps (S : Scenario) (n : ℕ) (m : Machine) (out : Bool) (pool : List PoolNote) (store : List StoreNote) : Type 0 where
   pub playable : IsPlayable S
   pub client : n < length S.clients
-  pub waiting : has_failed m.stage ≡ false → IsWaiting S m (held_if out m.stage)
+  pub waiting : has_failed m.stage ≡ false → IsWaiting S m (held_while out m.stage)
   pub runs : has_failed m.stage ≡ false → RunsOn S n m pool store
   pub starts : StartsWith (state_of (script S n pool store)).lines m.lines.items
 

@@ -13,7 +13,7 @@ use Rattle.stx_machine.specs.declared.completion.Intercepted.{Intercepted}
 use Rattle.stx_machine.specs.declared.interception.Phase.{Phase}
 use Rattle.stx_machine.specs.declared.machine.Machine.{Machine}
 use Rattle.stx_machine.specs.declared.stage.Stage.{Stage}
-use Rattle.stx_machine.specs.Machine.{later_calls, resume, stack, begun, phase_after, put_back, state_before, tells_resumed}
+use Rattle.stx_machine.specs.Machine.{later_calls, unwound, stack, begun, phase_after, put_back, state_before, tells_resumed}
 use Rattle.stx_steps.specs.Steps.{finds_none}
 use Rattle.stx_machine.specs.Sound.{CallOpens, CallResumes, CallsRun, OpensIn, nothing, standing_of, standing_under}
 use Rattle.stx_machine.proofs.Stacks.{opens_only, put_on, resumes_some}
@@ -21,7 +21,7 @@ use Rattle.stx_machine.proofs.Standings.{pushed_sound}
 use Rattle.stx_steps.proofs.answers.give_up_opening.Goals as goal
 
 pub returns-clause-goes : goal.returns-clause-goes
-unfolding resume begins
+unfolding unwound begins
 returns-clause-goes c S opens n pool store =
     let m = c.args.machine.now in
     let st = state_before m pool store in
@@ -31,12 +31,12 @@ returns-clause-goes c S opens n pool store =
     let back = c.resume.new.self in
     let resumes = c.resume.ensures in
     let refused : State → Result = λ st. finally (leaves call.method (Some CANNOT_CREATE_TRANSACTION_EXCEPTION) (say (Line.Throw CANNOT_CREATE_TRANSACTION_EXCEPTION) st)) (caught S call.catch) in
-    let at : Machine → Result → Result = λ z r. later_calls S n z.top (resume S (stack z.frames) r) in
+    let at : Machine → Result → Result = λ z r. later_calls S n z.top (unwound S (stack z.frames) r) in
     let here = subst (CallOpens S) c.take_off-place.ensures.call opens in
     let taken : Intercepted = record call { interception = record i { scope = c.take_held.new.self } } in
-    ap (λ fs. later_calls S n m.top (resume S fs (finds_none S fs st))) c.take_off-place.ensures.call
-    ∙ ap (λ phase. later_calls S n m.top (resume S (stack after.frames) (finally (phase_after S call.method call.place i phase (begun S call.method i None st)) (caught S call.catch)))) (opens_only i i.phase here.3)
-    ∙ ap (λ z. later_calls S n z.top (resume S (stack after.frames) (finally (begun S call.method i None (state_before z pool store)) (caught S call.catch)))) (sym c.take_off-place.ensures.rest)
+    ap (λ fs. later_calls S n m.top (unwound S fs (finds_none S fs st))) c.take_off-place.ensures.call
+    ∙ ap (λ phase. later_calls S n m.top (unwound S (stack after.frames) (finally (phase_after S call.method call.place i phase (begun S call.method i None st)) (caught S call.catch)))) (opens_only i i.phase here.3)
+    ∙ ap (λ z. later_calls S n z.top (unwound S (stack after.frames) (finally (begun S call.method i None (state_before z pool store)) (caught S call.catch)))) (sym c.take_off-place.ensures.rest)
     ∙ ap (λ s. at after (refused s)) (resumes_some i.scope.suspended (state_before after pool store) (subst (OpensIn i) (opens_only i i.phase here.3) here.3).1)
     ∙ ap (λ older. at after (refused (resumed (option_map context_of older) (state_before after pool store)))) (sym c.take_held.ensures.held ∙ c.in-Some.is)
     ∙ ap (λ s. at after (refused s)) (resumes.state pool store)

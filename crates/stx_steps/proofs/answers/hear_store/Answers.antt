@@ -8,7 +8,7 @@ use Rattle.stx_model.specs.Meanings.{State, Result}
 use Rattle.stx_context.specs.Carrying.{context_of}
 use Rattle.stx_machine.specs.declared.machine.Machine.{Machine}
 use Rattle.stx_machine.specs.declared.stage.Stage.{Stage}
-use Rattle.stx_machine.specs.Machine.{answered, later_calls, of_top, resume, stack, state_with, want_of}
+use Rattle.stx_machine.specs.Machine.{row_answered, later_calls, of_top, unwound, stack, state_with, want_of}
 use Rattle.stx_steps.specs.Steps.{starts, starts_pointed}
 use Rattle.stx_machine.specs.Sound.{IsSound, StageFits, brought, held_out, no_tokens, standing_of}
 use Rattle.stx_steps.proofs.Hearing.{hears_store, heard_access, heard_auto, heard_begin, heard_commit, heard_point, heard_release, heard_return, heard_rollback}
@@ -21,7 +21,7 @@ returns-in-Accessing-Access-clause-goes c n lines pool store line =
     let m = c.args.machine.now in
     let w = c.in-Accessing-Access in
     let suits = (λ k. store_answers (want_of (sym w.is-0 k)) (sym w.is-1 k)) ∙ c.requires.answers in
-    hears_store S n m lines _ pool store (answered w.place w.then w.answer) w.is-0 (context_of m.context) c.args.note _ w.is-1 line
+    hears_store S n m lines _ pool store (row_answered w.place w.then w.answer) w.is-0 (context_of m.context) c.args.note _ w.is-1 line
     (heard_access S lines (context_of m.context) m.local pool store w.place _ w.then _ _ w.answer suits)
     ∙ c.answer.ensures.goes S n pool store
 
@@ -31,7 +31,7 @@ returns-in-Accessing-Auto-clause-goes c n lines pool store line =
     let m = c.args.machine.now in
     let w = c.in-Accessing-Auto in
     let suits = (λ k. store_answers (want_of (sym w.is-0 k)) (sym w.is-1 k)) ∙ c.requires.answers in
-    hears_store S n m lines _ pool store (answered w.place w.then w.answer) w.is-0 (context_of m.context) c.args.note _ w.is-1 line
+    hears_store S n m lines _ pool store (row_answered w.place w.then w.answer) w.is-0 (context_of m.context) c.args.note _ w.is-1 line
     (heard_auto S lines (context_of m.context) m.local pool store w.place _ w.then _ w.answer suits)
     ∙ c.answer-in-Accessing-Auto.ensures.goes S n pool store
 
@@ -112,7 +112,7 @@ returns-in-GoingBack-BackTo-clause-goes c n lines pool store line =
     let cleared = c.clear_mark.new.self in
     let fits = subst (λ s. StageFits S s m.context (stack m.frames)) w.is-0 c.requires.sound.stage in
     let suits = (λ k. store_answers (want_of (sym w.is-0 k)) (sym w.is-1 k)) ∙ c.requires.answers in
-    let at : Machine → State → Result = λ z st. later_calls S n z.top (resume S (stack z.frames) (of_top S (stack z.frames) Stage.Completing st)) in
+    let at : Machine → State → Result = λ z st. later_calls S n z.top (unwound S (stack z.frames) (of_top S (stack z.frames) Stage.Completing st)) in
     hears_store S n m lines _ pool store (of_top S (stack m.frames) Stage.Completing) w.is-0 (with_global_mark false (context_of m.context)) c.args.note _ w.is-1 line
     (heard_return S lines (context_of m.context) m.local pool store (stack m.frames) (standing_of m.context) _ _ fits suits)
     ∙ ap (λ x. at m (state_with m x pool store)) (sym c.clear_mark.ensures.context)

@@ -8,7 +8,7 @@ use Rattle.stx_model.specs.Statements.{caught}
 use Rattle.stx_context.specs.Carrying.{context_of}
 use Rattle.stx_manager.specs.Scopes.{new_scope}
 use Rattle.stx_machine.specs.declared.machine.Machine.{Machine}
-use Rattle.stx_machine.specs.Machine.{later_calls, resume, stack, phase_after, pointed, started, state_before, state_with}
+use Rattle.stx_machine.specs.Machine.{later_calls, unwound, stack, phase_after, pointed, started, state_before, state_with}
 use Rattle.stx_steps.specs.Steps.{starts_pointed}
 use Rattle.stx_machine.specs.Sound.{CallPoints, CallsRun, IsApart, IsCall, IsOpen, IsSound, PointsIn, Standing, below_scope, bond_of, no_tokens, one_more, rank_at, standing_of}
 use Rattle.stx_machine.proofs.Stacks.{points_only}
@@ -16,7 +16,7 @@ use Rattle.stx_machine.proofs.Standings.{has_one_more_own, one_more_less}
 use Rattle.stx_steps.proofs.answers.start_point.Goals as goal
 
 pub returns-clause-goes : goal.returns-clause-goes
-unfolding resume
+unfolding unwound
 returns-clause-goes c S points n pool store =
     let m = c.args.machine.now in
     let call = c.take_off-catch.result in
@@ -26,13 +26,13 @@ returns-clause-goes c S points n pool store =
     let here = subst (CallPoints S (standing_of m.context)) c.take_off-catch.ensures.call points in
     let phase = points_only i i.phase here.3 in
     let new : i.scope ≡ new_scope Kind.Point false None = subst (PointsIn i) phase here.3 in
-    let at : Machine → State → Result = λ z st. later_calls S n z.top (resume S (stack z.frames) (finally (pointed S call.method st) (caught S call.catch))) in
-    ap (λ fs. later_calls S n m.top (resume S fs (starts_pointed S fs (state_before m pool store)))) c.take_off-catch.ensures.call
-    ∙ ap (λ p. later_calls S n m.top (resume S (stack off.frames) (finally (phase_after S call.method call.place i p (pointed S call.method (state_before m pool store))) (caught S call.catch)))) phase
-    ∙ ap (λ z. later_calls S n z.top (resume S (stack off.frames) (finally (pointed S call.method (state_before z pool store)) (caught S call.catch)))) (sym c.take_off-catch.ensures.rest)
+    let at : Machine → State → Result = λ z st. later_calls S n z.top (unwound S (stack z.frames) (finally (pointed S call.method st) (caught S call.catch))) in
+    ap (λ fs. later_calls S n m.top (unwound S fs (starts_pointed S fs (state_before m pool store)))) c.take_off-catch.ensures.call
+    ∙ ap (λ p. later_calls S n m.top (unwound S (stack off.frames) (finally (phase_after S call.method call.place i p (pointed S call.method (state_before m pool store))) (caught S call.catch)))) phase
+    ∙ ap (λ z. later_calls S n z.top (unwound S (stack off.frames) (finally (pointed S call.method (state_before z pool store)) (caught S call.catch)))) (sym c.take_off-catch.ensures.rest)
     ∙ ap (λ x. at off (state_with off x pool store)) (sym c.enter_point.ensures.context)
     ∙ ap (λ z. at z (state_with z (context_of entered.context) pool store)) (sym c.enter_point.ensures.rest)
-    ∙ ap (λ scope. later_calls S n entered.top (resume S (stack entered.frames) (finally (started S call.method scope (state_before entered pool store)) (caught S call.catch)))) (sym (c.into_scope.ensures ∙ new))
+    ∙ ap (λ scope. later_calls S n entered.top (unwound S (stack entered.frames) (finally (started S call.method scope (state_before entered pool store)) (caught S call.catch)))) (sym (c.into_scope.ensures ∙ new))
     ∙ c.start.ensures.goes S n pool store
 
 pub returns-clause-sound : goal.returns-clause-sound

@@ -3,7 +3,7 @@ use Rattle.std.proofs.Common.{◌∙◌, None, refl, sym, ap, arith}
 use Rattle.std.specs.Option.{option_map}
 use Rattle.stx_model.specs.Script.{deals}
 use Rattle.stx_events.specs.Deeds.{deed_of}
-use Rattle.stx_machine.specs.Machine.{Shrinks, calls_at, later_calls, later_deeds, resume, stack, state_before}
+use Rattle.stx_machine.specs.Machine.{Shrinks, calls_at, later_calls, later_deeds, unwound, stack, state_before}
 use Rattle.stx_machine.specs.Sound.{standing_of}
 use Rattle.stx_steps.proofs.Dealings.{first_none}
 use Rattle.stx_machine.proofs.Standings.{over_body}
@@ -15,7 +15,7 @@ returns-in-None-clause-goes c n pool store =
     let S = c.args.setup.now.scenario in
     let m = c.args.machine.now in
     let none = first_none (later_deeds S c.args.publication) (sym (ap (option_map deed_of) c.in-None.is) ∙ c.requires.deed) in
-    ap (λ ds. later_calls S n m.top (resume S (stack m.frames) (deals S (calls_at S (stack m.frames)) ds (state_before m pool store)))) none
+    ap (λ ds. later_calls S n m.top (unwound S (stack m.frames) (deals S (calls_at S (stack m.frames)) ds (state_before m pool store)))) none
 
 pub returns-in-None-clause-moves : goal.returns-in-None-clause-moves
 returns-in-None-clause-moves c =

@@ -8,7 +8,7 @@ use Rattle.stx_model.specs.Rounds.{listens}
 use Rattle.stx_model.specs.Script.{deals}
 use Rattle.stx_model.specs.Statements.{register_listener}
 use Rattle.stx_events.specs.Deeds.{deed_of}
-use Rattle.stx_machine.specs.Machine.{calls_at, dealt, later_calls, later_deeds, publication_of, resume, stack, state_before}
+use Rattle.stx_machine.specs.Machine.{calls_at, dealt, later_calls, later_deeds, publication_of, unwound, stack, state_before}
 use Rattle.stx_machine.specs.Sound.{DeedsBelow, rank_at}
 use Rattle.stx_steps.proofs.Dealings.{first_some, later_is, listens_is, run_is}
 use Rattle.stx_steps.proofs.publications.deal_with.Goals as goal
@@ -21,7 +21,7 @@ returns-in-Register-clause-goes c n pool store =
     let p = c.args.publication in
     let l = c.in-Register.listener in
     let (rest, is) = first_some (later_deeds S p) (Register l) (ap (λ d. Some (deed_of d)) (sym c.in-Register.is) ∙ c.requires.deed) in
-    let at : Result → Result = λ r. later_calls S n m.top (resume S (stack m.frames) r) in
+    let at : Result → Result = λ r. later_calls S n m.top (unwound S (stack m.frames) r) in
     let calls = calls_at S (stack m.frames) in
     ap (λ ds. at (deals S calls ds (state_before m pool store))) is
     ∙ ap (λ ds. at (and_then (register_listener S l (state_before m pool store)) (deals S calls ds))) (sym (later_is S p (Register l) rest is))
@@ -46,7 +46,7 @@ returns-in-RunNow-clause-goes c n pool store =
     let l = c.in-RunNow.listener in
     let (rest, is) = first_some (later_deeds S p) (RunNow l) (ap (λ d. Some (deed_of d)) (sym c.in-RunNow.is) ∙ c.requires.deed) in
     let (found, same) = run_is S p l rest is in
-    let at : Result → Result = λ r. later_calls S n m.top (resume S (stack m.frames) r) in
+    let at : Result → Result = λ r. later_calls S n m.top (unwound S (stack m.frames) r) in
     let calls = calls_at S (stack m.frames) in
     let st = state_before m pool store in
     ap (λ ds. at (deals S calls ds st)) is
@@ -72,7 +72,7 @@ returns-in-Skip-clause-goes c n pool store =
     let p = c.args.publication in
     let l = c.in-Skip.listener in
     let (rest, is) = first_some (later_deeds S p) (Skip l) (ap (λ d. Some (deed_of d)) (sym c.in-Skip.is) ∙ c.requires.deed) in
-    let at : Result → Result = λ r. later_calls S n m.top (resume S (stack m.frames) r) in
+    let at : Result → Result = λ r. later_calls S n m.top (unwound S (stack m.frames) r) in
     let calls = calls_at S (stack m.frames) in
     let said : List Line → State = λ ls. record (state_before m pool store) { lines = ls } in
     ap (λ ds. at (deals S calls ds (state_before m pool store))) is

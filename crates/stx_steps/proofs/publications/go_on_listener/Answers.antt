@@ -6,7 +6,7 @@ use Rattle.stx_model.specs.Meanings.{Result, Over, and_then}
 use Rattle.stx_model.specs.Rounds.{callback_statement}
 use Rattle.stx_model.specs.Script.{deals}
 use Rattle.stx_frames.specs.declared.frame.Frame.{Frame}
-use Rattle.stx_machine.specs.Machine.{calls_at, caller_rank, later_calls, later_deeds, now_after, publication_of, resume, stack, state_before}
+use Rattle.stx_machine.specs.Machine.{calls_at, caller_rank, later_calls, later_deeds, now_after, publication_of, unwound, stack, state_before}
 use Rattle.stx_steps.specs.Steps.{IsNext, MayCallBack}
 use Rattle.stx_steps.proofs.BodyLaws.{moves_from}
 use Rattle.stx_steps.proofs.RoundLaws.{may_listen, now_ends, now_next}
@@ -31,12 +31,12 @@ returns-in-Some-clause-goes c n pool store =
     let st = state_before m pool store in
     let calls = calls_at S (stack m.frames) in
     let next = subst (IsNext (listener_body (slice_get S.listeners l.0)) c.args.place c.args.thrown) c.in-Some.is c.statement_of.ensures in
-    let at : Result → Result = λ r. later_calls S n m.top (resume S (stack m.frames) r) in
+    let at : Result → Result = λ r. later_calls S n m.top (unwound S (stack m.frames) r) in
     let top = Frame.Now l (c.args.place + 1) in
     ap (λ x. at (now_after S calls l c.args.place (Over x st))) next.0
     ∙ ap at (now_next S calls l c.args.place s st next.1)
     ∙ ap (later_calls S n m.top) (resume_pushed S m.frames c.push.new.self top (callback_statement S calls s st) c.push.ensures.items)
-    ∙ ap (λ fs. later_calls S n m.top (resume S (stack c.push.new.self) (callback_statement S (calls_at S fs) s st))) (sym (pushed m.frames c.push.new.self top c.push.ensures.items))
+    ∙ ap (λ fs. later_calls S n m.top (unwound S (stack c.push.new.self) (callback_statement S (calls_at S fs) s st))) (sym (pushed m.frames c.push.new.self top c.push.ensures.items))
     ∙ c.make_in_callback.ensures.goes n pool store
 
 pub returns-in-Some-clause-moves : goal.returns-in-Some-clause-moves
@@ -50,7 +50,7 @@ returns-in-None-thrown-clause-goes c n pool store =
     let st = state_before m pool store in
     let calls = calls_at S (stack m.frames) in
     let ended = subst (IsNext (listener_body (slice_get S.listeners l.0)) c.args.place c.args.thrown) c.in-None.is c.statement_of.ensures in
-    let at : Result → Result = λ r. later_calls S n m.top (resume S (stack m.frames) r) in
+    let at : Result → Result = λ r. later_calls S n m.top (unwound S (stack m.frames) r) in
     ap at (now_ends S calls l c.args.place c.args.thrown st ended)
     ∙ ap (λ x. at (and_then (Over x st) (deals S calls (later_deeds S (publication_of S l))))) c.in-None-thrown.is
     ∙ ap (λ e. at (deals S calls (later_deeds S (record { event = e; after = Some l; registers = false })) st)) (sym c.event_of.ensures)

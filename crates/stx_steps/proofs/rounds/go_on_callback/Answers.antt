@@ -5,7 +5,7 @@ use Rattle.stx_model.specs.Rounds.{callback_statement}
 use Rattle.stx_model.specs.Statements.{caught}
 use Rattle.stx_machine.specs.declared.machine.Machine.{Machine}
 use Rattle.stx_steps.specs.declared.rounds.Telling.{Telling}
-use Rattle.stx_machine.specs.Machine.{after_round, calls_at, caller_rank, inside, later_calls, resume, stack, state_before}
+use Rattle.stx_machine.specs.Machine.{after_round, calls_at, caller_rank, inside, later_calls, unwound, stack, state_before}
 use Rattle.stx_steps.specs.Steps.{MayCallBack}
 use Rattle.stx_steps.proofs.BodyLaws.{moves_from}
 use Rattle.stx_steps.proofs.RoundLaws.{may_call_back, resume_told, statement_told}
@@ -30,11 +30,11 @@ returns-clause-goes c n pool store =
     let calls = inside S t.call.method in
     let after = c.put_back_round.new.machine in
     let next : Telling = record t { place = t.place + 1 } in
-    ap (λ r. later_calls S n m.top (resume S (stack m.frames) (finally (finally r (after_round S t.call.method t.call.interception t.course)) (caught S t.call.catch))))
+    ap (λ r. later_calls S n m.top (unwound S (stack m.frames) (finally (finally r (after_round S t.call.method t.call.interception t.course)) (caught S t.call.catch))))
     (statement_told S calls t.course t.todo t.at t.place (state_before m pool store) s c.requires.next.1)
     ∙ ap (later_calls S n m.top) (resume_told S m next after (callback_statement S calls s (state_before m pool store)) c.put_back_round.ensures)
-    ∙ ap (λ z. later_calls S n z.top (resume S (stack after.frames) (callback_statement S calls s (state_before z pool store)))) (sym c.put_back_round.ensures.rest)
-    ∙ ap (λ fs. later_calls S n after.top (resume S (stack after.frames) (callback_statement S (calls_at S fs) s (state_before after pool store)))) (sym c.put_back_round.ensures.frames)
+    ∙ ap (λ z. later_calls S n z.top (unwound S (stack after.frames) (callback_statement S calls s (state_before z pool store)))) (sym c.put_back_round.ensures.rest)
+    ∙ ap (λ fs. later_calls S n after.top (unwound S (stack after.frames) (callback_statement S (calls_at S fs) s (state_before after pool store)))) (sym c.put_back_round.ensures.frames)
     ∙ c.make_in_callback.ensures.goes n pool store
 
 pub returns-clause-moves : goal.returns-clause-moves

@@ -8,7 +8,7 @@ use Rattle.stx_context.specs.Carrying.{context_of}
 use Rattle.stx_machine.specs.declared.machine.Machine.{Machine}
 use Rattle.stx_steps.specs.declared.rounds.Telling.{Telling}
 use Rattle.stx_machine.specs.declared.stage.Stage.{Stage}
-use Rattle.stx_machine.specs.Machine.{AreTold, after_round, inside, later_calls, of_top, phase_after, resume, rounds_call, stack, state_before, tells, whole_round}
+use Rattle.stx_machine.specs.Machine.{AreTold, after_round, inside, later_calls, of_top, phase_after, unwound, rounds_call, stack, state_before, tells, whole_round}
 use Rattle.stx_machine.specs.Sound.{BeginsRound, CallRounds, CallsRun, IsApart, IsAtRound, IsIntercepted, below_phase, below_round, owns_in, rank_at, standing_of}
 use Rattle.stx_steps.proofs.RoundLaws.{Begins, as_it_was, apart_begun, none_told, telling_begun, told_on, whole_is, within_told}
 use Rattle.stx_steps.proofs.rounds.tell.Goals as goal
@@ -53,7 +53,7 @@ returns-clause-sound c S rounds few early holds =
     record { stage = (tt, within.calls); top = within.top; holds = within.holds }
 
 pub returns-clause-goes : goal.returns-clause-goes
-unfolding resume
+unfolding unwound
 returns-clause-goes c S n pool store =
     let m = c.args.machine.now in
     let call = c.take_off-call.result in
@@ -65,12 +65,12 @@ returns-clause-goes c S n pool store =
     let t : Telling = record { call = call; course = course; todo = c.args.told; at = 0; place = 0 } in
     let are = subst (λ z. AreTold c.args.told (context_of z.context)) (sym c.take_off-call.ensures.rest) c.requires.told in
     let at : Machine → Result → Result =
-    λ z r. later_calls S n z.top (resume S (stack z.frames) (finally (finally r (after_round S call.method i course)) (caught S call.catch))) in
-    ap (λ fs. later_calls S n m.top (resume S fs (of_top S fs Stage.Rounding (state_before m pool store)))) c.take_off-call.ensures.call
+    λ z r. later_calls S n z.top (unwound S (stack z.frames) (finally (finally r (after_round S call.method i course)) (caught S call.catch))) in
+    ap (λ fs. later_calls S n m.top (unwound S fs (of_top S fs Stage.Rounding (state_before m pool store)))) c.take_off-call.ensures.call
     ∙ ap
-    (λ phase. later_calls S n m.top (resume S (stack off.frames) (finally (phase_after S call.method call.place i phase (rounds_call S call.method i phase (state_before m pool store))) (caught S call.catch))))
+    (λ phase. later_calls S n m.top (unwound S (stack off.frames) (finally (phase_after S call.method call.place i phase (rounds_call S call.method i phase (state_before m pool store))) (caught S call.catch))))
     c.in-Round.is
-    ∙ ap (λ z. later_calls S n z.top (resume S (stack off.frames) (finally (finally (whole_round S calls course.round course.committed (state_before z pool store)) (after_round S call.method i course)) (caught S call.catch))))
+    ∙ ap (λ z. later_calls S n z.top (unwound S (stack off.frames) (finally (finally (whole_round S calls course.round course.committed (state_before z pool store)) (after_round S call.method i course)) (caught S call.catch))))
     (sym c.take_off-call.ensures.rest)
     ∙ ap (at off) (whole_is S calls course.committed c.args.told off mid pool store are course.round (begins c))
     ∙ ap (λ z. at z (tells S calls course.round course.committed (map registration c.args.told) (state_before mid pool store))) (sym (begins c).rest)

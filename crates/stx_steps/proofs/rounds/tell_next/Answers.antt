@@ -6,7 +6,7 @@ use Rattle.stx_model.specs.Meanings.{Result, Over, finally}
 use Rattle.stx_model.specs.Statements.{caught}
 use Rattle.stx_machine.specs.declared.machine.Machine.{Machine}
 use Rattle.stx_steps.specs.declared.rounds.Telling.{Telling}
-use Rattle.stx_machine.specs.Machine.{after_round, course_after, inside, later_calls, resume, stack, state_before}
+use Rattle.stx_machine.specs.Machine.{after_round, course_after, inside, later_calls, unwound, stack, state_before}
 use Rattle.stx_steps.specs.Steps.{SaysCallback, IsTelling}
 use Rattle.stx_machine.specs.Sound.{IsApart, below_round, rank_at, standing_of}
 use Rattle.stx_steps.proofs.RoundLaws.{last_was_told, next_told, one_more_told, told_on, within_told}
@@ -18,7 +18,7 @@ returns-in-None-clause-goes c n pool store =
     let m = c.args.machine.now in
     let t = c.args.telling in
     let past : slice_get t.todo t.at ≡ None = sym c.get.ensures ∙ ap option_copied c.in-None.is in
-    ap (λ r. later_calls S n m.top (resume S (stack m.frames) (finally (finally r (after_round S t.call.method t.call.interception t.course)) (caught S t.call.catch))))
+    ap (λ r. later_calls S n m.top (unwound S (stack m.frames) (finally (finally r (after_round S t.call.method t.call.interception t.course)) (caught S t.call.catch))))
     (last_was_told S (inside S t.call.method) t.course t.todo t.at (state_before m pool store) past)
     ∙ c.end_round.ensures.goes S n pool store
 
@@ -31,7 +31,7 @@ returns-in-Some-clause-goes c n pool store =
     let there : slice_get t.todo t.at ≡ Some c.in-Some.told.now = sym c.get.ensures ∙ ap option_copied c.in-Some.is in
     let next : Telling = record t { at = t.at + 1; place = 0 } in
     let says = subst (λ committed. SaysCallback S t.course.round committed c.in-Some.told.now.label m said) c.status.ensures c.say_callback.ensures in
-    let at : Machine → Result → Result = λ z r. later_calls S n z.top (resume S (stack z.frames) (finally (finally r (after_round S t.call.method t.call.interception t.course)) (caught S t.call.catch))) in
+    let at : Machine → Result → Result = λ z r. later_calls S n z.top (unwound S (stack z.frames) (finally (finally r (after_round S t.call.method t.call.interception t.course)) (caught S t.call.catch))) in
     ap (at m) (next_told S (inside S t.call.method) t.course t.todo t.at c.in-Some.told.now (state_before m pool store) there)
     ∙ ap (λ st. at m (course_after S (inside S t.call.method) t.course t.todo (t.at + 1) 0 (Over None st))) (says.state pool store)
     ∙ ap (λ z. at z (course_after S (inside S t.call.method) t.course t.todo (t.at + 1) 0 (Over None (state_before said pool store)))) (sym says.rest)

@@ -5,7 +5,7 @@ use Rattle.stx_model.specs.Meanings.{Result, Over, finally}
 use Rattle.stx_model.specs.Script.{statement}
 use Rattle.stx_model.specs.Statements.{caught}
 use Rattle.stx_frames.specs.declared.frame.Frame.{Frame}
-use Rattle.stx_machine.specs.Machine.{later_calls, resume, stack, call_after, inside, state_before}
+use Rattle.stx_machine.specs.Machine.{later_calls, unwound, stack, call_after, inside, state_before}
 use Rattle.stx_machine.specs.Sound.{ScopeRuns, standing_of}
 use Rattle.stx_steps.specs.Steps.{IsNext}
 use Rattle.stx_steps.proofs.BodyLaws.{may_at, goes_on, ends_unscoped, ends_scoped, moves_from}
@@ -26,7 +26,7 @@ returns-in-Some-clause-goes c n pool store =
     let st = state_before m pool store in
     let s = c.in-Some.statement in
     let next = subst (IsNext (body_of S method) c.args.place c.args.thrown) c.in-Some.is c.statement_at.ensures in
-    let rest : Result → Result = λ r. later_calls S n m.top (resume S (stack m.frames) (finally r (caught S c.args.catch))) in
+    let rest : Result → Result = λ r. later_calls S n m.top (unwound S (stack m.frames) (finally r (caught S c.args.catch))) in
     ap (λ x. rest (call_after S method c.args.place c.args.scope (Over x st))) next.0
     ∙ ap rest (goes_on S method c.args.place st s next.1 (standing_of m.context) c.args.scope c.requires.scope)
     ∙ ap (later_calls S n m.top)
@@ -44,7 +44,7 @@ returns-in-Some-scope-clause-goes c n pool store =
     let i = c.in-Some-scope.interception in
     let st = state_before m pool store in
     let none = subst (IsNext (body_of S method) c.args.place c.args.thrown) c.in-None.is c.statement_at.ensures in
-    let rest : Result → Result = λ r. later_calls S n m.top (resume S (stack m.frames) (finally r (caught S c.args.catch))) in
+    let rest : Result → Result = λ r. later_calls S n m.top (unwound S (stack m.frames) (finally r (caught S c.args.catch))) in
     let runs = subst (ScopeRuns S (standing_of m.context) method) c.in-Some-scope.is c.requires.scope in
     ap (λ scope. rest (call_after S method c.args.place scope (Over c.args.thrown st))) c.in-Some-scope.is
     ∙ ap rest (ends_scoped S method c.args.place st c.args.thrown none (standing_of m.context) i runs)
@@ -57,7 +57,7 @@ returns-in-None-scope-clause-goes c n pool store =
     let method = c.args.method in
     let st = state_before m pool store in
     let none = subst (IsNext (body_of S method) c.args.place c.args.thrown) c.in-None.is c.statement_at.ensures in
-    let rest : Result → Result = λ r. later_calls S n m.top (resume S (stack m.frames) (finally r (caught S c.args.catch))) in
+    let rest : Result → Result = λ r. later_calls S n m.top (unwound S (stack m.frames) (finally r (caught S c.args.catch))) in
     ap (λ scope. rest (call_after S method c.args.place scope (Over c.args.thrown st))) c.in-None-scope.is
     ∙ ap rest (ends_unscoped S method c.args.place st c.args.thrown none)
     ∙ c.leave.ensures.goes n pool store

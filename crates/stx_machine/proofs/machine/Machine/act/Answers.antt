@@ -4,7 +4,7 @@ use Rattle.std.specs.Prelude.{◌&&◌, IfSome}
 use Rattle.stx_model.specs.Meanings.{Result, finally}
 use Rattle.stx_model.specs.Statements.{caught}
 use Rattle.stx_model.specs.Scopes.{acts, later_or}
-use Rattle.stx_machine.specs.Machine.{inside, rest_after, round_if, round_in, later_calls, resume, scope_of, stack, state_before}
+use Rattle.stx_machine.specs.Machine.{inside, rest_after, round_if, round_in, later_calls, unwound, scope_of, stack, state_before}
 use Rattle.stx_machine.specs.Sound.{IsApart, below_rest, IsIntercepted, IsSound, due_after, ends_after, ends_syncs, releases, standing_of, standing_under, without_own}
 use Rattle.stx_machine.proofs.Endings.{round_first}
 use Rattle.stx_machine.proofs.Standings.{round_due}
@@ -23,7 +23,7 @@ returns-in-Some-clause-goes c n pool store =
     (λ o. IfSome o (λ r. acts S calls scope (c.args.action ∷ rest) c.args.thrown st
     ≡ finally (round_if S calls scope.owns r.0 r.1 st) (λ y. acts S calls scope (rest_after scope.kind r.0 rest y) (later_or y c.args.thrown))))
     (sym c.round_of.ensures ∙ c.in-Some.is) (round_first S calls scope rest c.args.thrown st c.args.action) in
-    ap (λ r. later_calls S n m.top (resume S (stack m.frames) (finally r (caught S call.catch)))) first ∙ c.begin_round.ensures.goes S n pool store
+    ap (λ r. later_calls S n m.top (unwound S (stack m.frames) (finally r (caught S call.catch)))) first ∙ c.begin_round.ensures.goes S n pool store
 
 pub returns-in-Some-clause-sound : goal.returns-in-Some-clause-sound
 returns-in-Some-clause-sound c =

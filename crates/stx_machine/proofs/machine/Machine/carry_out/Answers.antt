@@ -18,7 +18,7 @@ use Rattle.stx_machine.specs.declared.interception.Phase.{Phase}
 use Rattle.stx_machine.specs.declared.machine.Machine.{Machine}
 use Rattle.stx_machine.specs.declared.stage.Stage.{Stage}
 use Rattle.stx_machine.specs.declared.tokens.Tokens.{Tokens}
-use Rattle.stx_machine.specs.Machine.{Call, later_calls, resume, stack, inside, scope_of, acts_of, put_back, context_at, state_before, state_with}
+use Rattle.stx_machine.specs.Machine.{Call, later_calls, unwound, stack, inside, scope_of, acts_of, put_back, context_at, state_before, state_with}
 use Rattle.stx_machine.specs.Sound.{CallCompletes, CallsRun, IsApart, IsIntercepted, IsSound, Standing, StageFits, below_rest, due_in, ends_syncs, one_less, standing_of, standing_under, with_connection, without_own}
 use Rattle.stx_machine.proofs.Standings.{due_given, due_released, pushed_sound, shelters_all, under_some}
 use Rattle.stx_machine.proofs.Places.{built_in_known}
@@ -26,7 +26,7 @@ use Rattle.stx_machine.proofs.Stacks.{put_on, live_is}
 use Rattle.stx_machine.proofs.machine.Machine.carry_out.Goals as goal
 
 pub returns-in-CommitStore-clause-goes : goal.returns-in-CommitStore-clause-goes
-unfolding acts resume
+unfolding acts unwound
 returns-in-CommitStore-clause-goes c n pool store =
     let S = c.args.setup.now.scenario in
     let m = c.args.self.now in
@@ -34,17 +34,17 @@ returns-in-CommitStore-clause-goes c n pool store =
     let ends = c.end_session-tx.ensures in
     let t = c.end_session-tx.result in
     let after = c.end_session-tx.new.self in
-    let at : Machine → Result → Result = λ z r. later_calls S n z.top (resume S (stack z.frames) (finally r (caught S call.catch))) in
+    let at : Machine → Result → Result = λ z r. later_calls S n z.top (unwound S (stack z.frames) (finally r (caught S call.catch))) in
     let rest : Meaning = acts S (inside S call.method) (scope_of call.method call.interception) c.args.rest.now c.args.thrown in
     let commits : ℕ → Meaning = λ u. ask (Want.Commit u) (λ _. rest) in
-    ap (λ a. later_calls S n m.top (resume S (stack m.frames) (acts_of S call (a ∷ c.args.rest.now) c.args.thrown (state_before m pool store)))) c.in-CommitStore.is
+    ap (λ a. later_calls S n m.top (unwound S (stack m.frames) (acts_of S call (a ∷ c.args.rest.now) c.args.thrown (state_before m pool store)))) c.in-CommitStore.is
     ∙ ap (at m) (live_is (context_of m.context).tx t commits (state_before m pool store) ends.number)
     ∙ ap (λ x. at m (commits t (state_with m x pool store))) (sym ends.context)
     ∙ ap (λ z. at z (commits t (state_with z (context_of after.context) pool store))) (sym ends.rest)
     ∙ put_on S n after c.put_back.new.self (put_back call (Phase.Completing c.args.rest c.args.thrown)) (Stage.Committing t) pool store c.put_back.ensures
 
 pub returns-in-RollbackStore-clause-goes : goal.returns-in-RollbackStore-clause-goes
-unfolding acts resume
+unfolding acts unwound
 returns-in-RollbackStore-clause-goes c n pool store =
     let S = c.args.setup.now.scenario in
     let m = c.args.self.now in
@@ -52,10 +52,10 @@ returns-in-RollbackStore-clause-goes c n pool store =
     let ends = c.end_session-tx-in-RollbackStore.ensures in
     let t = c.end_session-tx-in-RollbackStore.result in
     let after = c.end_session-tx-in-RollbackStore.new.self in
-    let at : Machine → Result → Result = λ z r. later_calls S n z.top (resume S (stack z.frames) (finally r (caught S call.catch))) in
+    let at : Machine → Result → Result = λ z r. later_calls S n z.top (unwound S (stack z.frames) (finally r (caught S call.catch))) in
     let rest : Meaning = acts S (inside S call.method) (scope_of call.method call.interception) c.args.rest.now c.args.thrown in
     let rolls_back : ℕ → Meaning = λ u. ask (Want.Rollback u) (λ _. rest) in
-    ap (λ a. later_calls S n m.top (resume S (stack m.frames) (acts_of S call (a ∷ c.args.rest.now) c.args.thrown (state_before m pool store)))) c.in-RollbackStore.is
+    ap (λ a. later_calls S n m.top (unwound S (stack m.frames) (acts_of S call (a ∷ c.args.rest.now) c.args.thrown (state_before m pool store)))) c.in-RollbackStore.is
     ∙ ap (at m) (live_is (context_of m.context).tx t rolls_back (state_before m pool store) ends.number)
     ∙ ap (λ x. at m (rolls_back t (state_with m x pool store))) (sym ends.context)
     ∙ ap (λ z. at z (rolls_back t (state_with z (context_of after.context) pool store))) (sym ends.rest)
@@ -67,7 +67,7 @@ returns-in-ThrowUnexpected-clause-goes c n pool store =
     let S = c.args.setup.now.scenario in
     let m = c.args.self.now in
     let call = c.args.call in
-    let at : List Action → Option ClassNo → State → Result = λ actions x st. later_calls S n m.top (resume S (stack m.frames) (acts_of S call actions x st)) in
+    let at : List Action → Option ClassNo → State → Result = λ actions x st. later_calls S n m.top (unwound S (stack m.frames) (acts_of S call actions x st)) in
     let said : List Line → State = λ ls. record (state_before m pool store) { lines = ls } in
     ap (λ a. at (a ∷ c.args.rest.now) c.args.thrown (state_before m pool store)) c.in-ThrowUnexpected.is
     ∙ ap (λ ls. at c.args.rest.now (Some UNEXPECTED_ROLLBACK_EXCEPTION) (said ls)) (sym c.push.ensures.items)
@@ -93,7 +93,7 @@ returns-in-ThrowUnexpected-clause-sound c =
     subst (IsSound S c.go_on_with.new.self) (sym c.go_on_with.ensures.held) sound
 
 pub returns-in-GiveBack-clause-goes : goal.returns-in-GiveBack-clause-goes
-unfolding acts resume
+unfolding acts unwound
 returns-in-GiveBack-clause-goes c n pool store =
     let S = c.args.setup.now.scenario in
     let m = c.args.self.now in
@@ -101,31 +101,31 @@ returns-in-GiveBack-clause-goes c n pool store =
     let parts = c.part-bound.ensures in
     let bound = c.part-bound.result in
     let after = c.part-bound.new.self in
-    let at : Machine → Result → Result = λ z r. later_calls S n z.top (resume S (stack z.frames) (finally r (caught S call.catch))) in
+    let at : Machine → Result → Result = λ z r. later_calls S n z.top (unwound S (stack z.frames) (finally r (caught S call.catch))) in
     let rest : Meaning = acts S (inside S call.method) (scope_of call.method call.interception) c.args.rest.now c.args.thrown in
     let gives : Meaning = ask (Want.Give bound.connection) (λ _. rest) in
     let carried : context_of m.context ≡ context_at (Stage.GivingBack bound) after.context =
     (λ k. record { tx = parts.bound k; syncs = option_map (λ r. r.list) m.context.syncs }) ∙ ap (context_at (Stage.GivingBack bound)) (sym parts.context) in
-    ap (λ a. later_calls S n m.top (resume S (stack m.frames) (acts_of S call (a ∷ c.args.rest.now) c.args.thrown (state_before m pool store)))) c.in-GiveBack.is
+    ap (λ a. later_calls S n m.top (unwound S (stack m.frames) (acts_of S call (a ∷ c.args.rest.now) c.args.thrown (state_before m pool store)))) c.in-GiveBack.is
     ∙ ap (λ tx. at m (live_in tx (λ live. ask (Want.Give live.connection) (λ _. rest)) (state_before m pool store))) parts.bound
     ∙ ap (λ x. at m (gives (state_with m x pool store))) carried
     ∙ ap (λ z. at z (gives (state_with z (context_at (Stage.GivingBack bound) after.context) pool store))) (sym parts.rest)
     ∙ put_on S n after c.put_back-in-GiveBack.new.self (put_back call (Phase.Completing c.args.rest c.args.thrown)) (Stage.GivingBack bound) pool store c.put_back-in-GiveBack.ensures
 
 pub returns-in-BackToPoint-clause-goes : goal.returns-in-BackToPoint-clause-goes
-unfolding acts resume
+unfolding acts unwound
 returns-in-BackToPoint-clause-goes c n pool store =
     let S = c.args.setup.now.scenario in
     let m = c.args.self.now in
     let call = c.args.call in
     let t = c.transaction-tx.result in
     let back : ℕ → Meaning = λ u. ask (Want.BackTo u) (λ _ back. acts S (inside S call.method) (scope_of call.method call.interception) c.args.rest.now c.args.thrown (with_context (with_global_mark false back.context) back)) in
-    ap (λ a. later_calls S n m.top (resume S (stack m.frames) (acts_of S call (a ∷ c.args.rest.now) c.args.thrown (state_before m pool store)))) c.in-BackToPoint.is
-    ∙ ap (λ r. later_calls S n m.top (resume S (stack m.frames) (finally r (caught S call.catch)))) (live_is (context_of m.context).tx t back (state_before m pool store) c.transaction-tx.ensures)
+    ap (λ a. later_calls S n m.top (unwound S (stack m.frames) (acts_of S call (a ∷ c.args.rest.now) c.args.thrown (state_before m pool store)))) c.in-BackToPoint.is
+    ∙ ap (λ r. later_calls S n m.top (unwound S (stack m.frames) (finally r (caught S call.catch)))) (live_is (context_of m.context).tx t back (state_before m pool store) c.transaction-tx.ensures)
     ∙ put_on S n m c.put_back-in-BackToPoint.new.self (put_back call (Phase.Completing c.args.rest c.args.thrown)) (Stage.GoingBack t) pool store c.put_back-in-BackToPoint.ensures
 
 pub returns-in-ReleasePoint-clause-goes : goal.returns-in-ReleasePoint-clause-goes
-unfolding acts resume
+unfolding acts unwound
 returns-in-ReleasePoint-clause-goes c n pool store =
     let S = c.args.setup.now.scenario in
     let m = c.args.self.now in
@@ -133,10 +133,10 @@ returns-in-ReleasePoint-clause-goes c n pool store =
     let leaves = c.leave_point-tx.ensures in
     let t = c.leave_point-tx.result in
     let after = c.leave_point-tx.new.self in
-    let at : Machine → Result → Result = λ z r. later_calls S n z.top (resume S (stack z.frames) (finally r (caught S call.catch))) in
+    let at : Machine → Result → Result = λ z r. later_calls S n z.top (unwound S (stack z.frames) (finally r (caught S call.catch))) in
     let rest : Meaning = acts S (inside S call.method) (scope_of call.method call.interception) c.args.rest.now c.args.thrown in
     let releases : ℕ → Meaning = λ u. ask (Want.Release u) (λ _. rest) in
-    ap (λ a. later_calls S n m.top (resume S (stack m.frames) (acts_of S call (a ∷ c.args.rest.now) c.args.thrown (state_before m pool store)))) c.in-ReleasePoint.is
+    ap (λ a. later_calls S n m.top (unwound S (stack m.frames) (acts_of S call (a ∷ c.args.rest.now) c.args.thrown (state_before m pool store)))) c.in-ReleasePoint.is
     ∙ ap (at m) (live_is (context_of m.context).tx t releases (state_before m pool store) leaves.number)
     ∙ ap (λ x. at m (releases t (state_with m x pool store))) (sym leaves.context)
     ∙ ap (λ z. at z (releases t (state_with z (context_of after.context) pool store))) (sym leaves.rest)

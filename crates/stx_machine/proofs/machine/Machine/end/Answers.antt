@@ -9,7 +9,7 @@ use Rattle.stx_context.specs.Carrying.{context_of}
 use Rattle.stx_machine.specs.declared.completion.Intercepted.{Intercepted}
 use Rattle.stx_machine.specs.declared.interception.Interception.{Interception}
 use Rattle.stx_machine.specs.declared.machine.Machine.{Machine}
-use Rattle.stx_machine.specs.Machine.{later_calls, resume, stack, inside, attribute_of, scope_of, state_before}
+use Rattle.stx_machine.specs.Machine.{later_calls, unwound, stack, inside, attribute_of, scope_of, state_before}
 use Rattle.stx_machine.specs.Sound.{IsApart, IsEndingSo, below_scope, may_end, rank_at, standing_of}
 use Rattle.stx_machine.proofs.Endings.{ends_so}
 use Rattle.stx_machine.proofs.machine.Machine.end.Goals as goal
@@ -31,7 +31,7 @@ returns-clause-goes c n pool store =
     let e = c.ending-ending.result in
     let before = ending i.scope.kind (rolls S rules x) (is_set m.local) (context_of m.context) in
     let scope = scope_of call.method i in
-    let at : Machine → Result → Result = λ z r. later_calls S n z.top (resume S (stack z.frames) (finally r (caught S call.catch))) in
+    let at : Machine → Result → Result = λ z r. later_calls S n z.top (unwound S (stack z.frames) (finally r (caught S call.catch))) in
     let same : before ≡ e =
     sym (c.ending-ending.ensures.ending ∙ (λ k. ending i.scope.kind (c.rule-rolls_back.ensures.rolls k) (is_set (says.rest k).local) (context_of (says.rest k).context))) in
     let said : List Line → State = λ ls. record (state_before ruled pool store) { lines = ls } in

@@ -7,7 +7,7 @@ use Rattle.stx_model.specs.Ending.{completion, has_before_commit}
 use Rattle.stx_model.specs.Meanings.{Result, finally}
 use Rattle.stx_model.specs.Scopes.{acts, later_or}
 use Rattle.stx_model.specs.Statements.{caught}
-use Rattle.stx_machine.specs.Machine.{inside, later_calls, rest_after, resume, round_if, scope_of, stack, state_before}
+use Rattle.stx_machine.specs.Machine.{inside, later_calls, rest_after, unwound, round_if, scope_of, stack, state_before}
 use Rattle.stx_machine.specs.Sound.{IsApart, Shelters, below_rest, due_after, due_in, ends_syncs, standing_of}
 use Rattle.stx_machine.proofs.Endings.{below_completion, commits, completes_at_once, due_at_end, due_before_commit, owned_ends}
 use Rattle.stx_machine.proofs.machine.Machine.go_on_to.Goals as goal
@@ -21,7 +21,7 @@ returns-then-has_before_commit-clause-goes c S n pool store =
     let st = state_before m pool store in
     let due = ap (λ k. has_before_commit k c.args.ending) c.requires.kind ∙ sym c.has_before_commit.ensures ∙ c.if-has_before_commit.true in
     let left : completion i.scope.kind c.args.ending ≡ c.completion-rest.result.now = ap (λ k. completion k c.args.ending) c.requires.kind ∙ sym c.completion-rest.ensures in
-    let at : Result → Result = λ r. later_calls S n m.top (resume S (stack m.frames) (finally r (caught S call.catch))) in
+    let at : Result → Result = λ r. later_calls S n m.top (unwound S (stack m.frames) (finally r (caught S call.catch))) in
     ap at (commits S (inside S call.method) (scope_of call.method i) c.args.ending x st true due)
     ∙ ap (λ rest. at (finally (round_if S (inside S call.method) i.scope.owns Round.BeforeCommit true st) (λ y. acts S (inside S call.method) (scope_of call.method i) (rest_after i.scope.kind Round.BeforeCommit rest y) (later_or y x)))) left
     ∙ c.begin_round.ensures.goes S n pool store
@@ -49,7 +49,7 @@ returns-else-has_before_commit-clause-goes c S n pool store =
     let st = state_before m pool store in
     let none = ap (λ k. has_before_commit k c.args.ending) c.requires.kind ∙ sym c.has_before_commit.ensures ∙ c.if-has_before_commit.false in
     let left : completion i.scope.kind c.args.ending ≡ c.completion-rest.result.now = ap (λ k. completion k c.args.ending) c.requires.kind ∙ sym c.completion-rest.ensures in
-    let at : Result → Result = λ r. later_calls S n m.top (resume S (stack m.frames) (finally r (caught S call.catch))) in
+    let at : Result → Result = λ r. later_calls S n m.top (unwound S (stack m.frames) (finally r (caught S call.catch))) in
     ap at (completes_at_once S (inside S call.method) (scope_of call.method i) c.args.ending x st none)
     ∙ ap (λ rest. at (acts S (inside S call.method) (scope_of call.method i) rest x st)) left
     ∙ c.go_on_with.ensures.goes S n pool store

@@ -6,7 +6,7 @@ use Rattle.stx_model.specs.Meanings.{Result, ask, on_take, finally}
 use Rattle.stx_model.specs.Scopes.{opens}
 use Rattle.stx_model.specs.Statements.{caught}
 use Rattle.stx_context.specs.Carrying.{context_of}
-use Rattle.stx_machine.specs.Machine.{later_calls, resume, stack, inside, attribute_of, statements, started, fresh_begun, state_before}
+use Rattle.stx_machine.specs.Machine.{later_calls, unwound, stack, inside, attribute_of, statements, started, fresh_begun, state_before}
 use Rattle.stx_machine.proofs.OpeningLaws.{found_for, none_of, refused_known, fresh_bare, empty_free, point_live, some_of, suspended_either, told_fresh}
 use Rattle.stx_machine.proofs.Places.{built_in_known}
 use Rattle.stx_machine.proofs.machine.Machine.open.Goals as goal
@@ -44,7 +44,7 @@ returns-in-Refuse-clause-goes c n pool store =
     let context = context_of m.context in
     let a = attribute_of S c.args.method in
     let is = found_for S.settings context c.attribute_of-attribute.result.now a c.opening.result (Opening.Refuse c.in-Refuse.class) c.attribute_of-attribute.ensures c.opening.ensures c.in-Refuse.is in
-    ap (λ o. later_calls S n m.top (resume S (stack m.frames) (finally (opens S (inside S c.args.method) c.args.method a (statements S c.args.method 0) o (state_before m pool store)) (caught S c.args.catch)))) is
+    ap (λ o. later_calls S n m.top (unwound S (stack m.frames) (finally (opens S (inside S c.args.method) c.args.method a (statements S c.args.method 0) o (state_before m pool store)) (caught S c.args.catch)))) is
     ∙ c.refuse.ensures.goes S n pool store
 
 pub returns-in-Join-clause-goes : goal.returns-in-Join-clause-goes
@@ -55,7 +55,7 @@ returns-in-Join-clause-goes c n pool store =
     let context = context_of m.context in
     let a = attribute_of S c.args.method in
     let is = found_for S.settings context c.attribute_of-attribute.result.now a c.opening.result Opening.Join c.attribute_of-attribute.ensures c.opening.ensures c.in-Join.is in
-    let at : Result → Result = λ r. later_calls S n m.top (resume S (stack m.frames) (finally r (caught S c.args.catch))) in
+    let at : Result → Result = λ r. later_calls S n m.top (unwound S (stack m.frames) (finally r (caught S c.args.catch))) in
     ap (λ o. at (opens S (inside S c.args.method) c.args.method a (statements S c.args.method 0) o (state_before m pool store))) is
     ∙ ap (λ scope. at (started S c.args.method scope (state_before m pool store))) (sym c.new.ensures)
     ∙ c.start.ensures.goes S n pool store
@@ -69,7 +69,7 @@ returns-in-Fresh-clause-goes c n pool store =
     let a = attribute_of S c.args.method in
     let o = Opening.Fresh c.in-Fresh.suspends c.in-Fresh.owns in
     let is = found_for S.settings context c.attribute_of-attribute.result.now a c.opening.result o c.attribute_of-attribute.ensures c.opening.ensures c.in-Fresh.is in
-    let at : Result → Result = λ r. later_calls S n m.top (resume S (stack m.frames) (finally r (caught S c.args.catch))) in
+    let at : Result → Result = λ r. later_calls S n m.top (unwound S (stack m.frames) (finally r (caught S c.args.catch))) in
     ap (λ o. at (opens S (inside S c.args.method) c.args.method a (statements S c.args.method 0) o (state_before m pool store))) is
     ∙ ap (λ st. at (ask Want.Take (on_take (fresh_begun S c.args.method c.in-Fresh.owns context)) st))
     (suspended_either c.in-Fresh.suspends (state_before m pool store) (fresh_bare S.settings a context c.in-Fresh.suspends c.in-Fresh.owns is))
@@ -84,7 +84,7 @@ returns-in-Empty-clause-goes c n pool store =
     let a = attribute_of S c.args.method in
     let o = Opening.Empty c.in-Empty.suspends c.in-Empty.owns in
     let is = found_for S.settings context c.attribute_of-attribute.result.now a c.opening.result o c.attribute_of-attribute.ensures c.opening.ensures c.in-Empty.is in
-    ap (λ o. later_calls S n m.top (resume S (stack m.frames) (finally (opens S (inside S c.args.method) c.args.method a (statements S c.args.method 0) o (state_before m pool store)) (caught S c.args.catch)))) is
+    ap (λ o. later_calls S n m.top (unwound S (stack m.frames) (finally (opens S (inside S c.args.method) c.args.method a (statements S c.args.method 0) o (state_before m pool store)) (caught S c.args.catch)))) is
     ∙ c.open_empty.ensures.goes S n pool store
 
 pub returns-in-Point-clause-goes : goal.returns-in-Point-clause-goes
@@ -95,7 +95,7 @@ returns-in-Point-clause-goes c n pool store =
     let context = context_of m.context in
     let a = attribute_of S c.args.method in
     let is = found_for S.settings context c.attribute_of-attribute.result.now a c.opening.result Opening.Point c.attribute_of-attribute.ensures c.opening.ensures c.in-Point.is in
-    ap (λ o. later_calls S n m.top (resume S (stack m.frames) (finally (opens S (inside S c.args.method) c.args.method a (statements S c.args.method 0) o (state_before m pool store)) (caught S c.args.catch)))) is
+    ap (λ o. later_calls S n m.top (unwound S (stack m.frames) (finally (opens S (inside S c.args.method) c.args.method a (statements S c.args.method 0) o (state_before m pool store)) (caught S c.args.catch)))) is
     ∙ c.open_point.ensures.goes S n pool store
 
 pub open_fresh-requires-clause-told : goal.open_fresh-requires-clause-told

@@ -12,7 +12,7 @@ use Rattle.stx_machine.specs.declared.completion.Intercepted.{Intercepted}
 use Rattle.stx_machine.specs.declared.interception.Phase.{Phase}
 use Rattle.stx_machine.specs.declared.machine.Machine.{Machine}
 use Rattle.stx_machine.specs.declared.stage.Stage.{Stage}
-use Rattle.stx_machine.specs.Machine.{later_calls, resume, stack, acts_of, put_back, state_before, tells_resumed}
+use Rattle.stx_machine.specs.Machine.{later_calls, unwound, stack, acts_of, put_back, state_before, tells_resumed}
 use Rattle.stx_machine.specs.Sound.{CallResumes, CallsRun, IsApart, IsCompleting, below_rest, ends_syncs, is_due, rank_at, releases, standing_of, standing_under, without_own}
 use Rattle.stx_machine.proofs.Stacks.{put_on}
 use Rattle.stx_machine.proofs.Standings.{pushed_sound}
@@ -22,14 +22,14 @@ pub resume-requires-clause-bare : goal.resume-requires-clause-bare
 resume-requires-clause-bare c = c.requires.bare (subst IsSome (sym (sym c.take_held-suspended.ensures.held ∙ c.in-Some.is)) refl)
 
 pub returns-in-Some-clause-goes : goal.returns-in-Some-clause-goes
-unfolding acts resume
+unfolding acts unwound
 returns-in-Some-clause-goes c S n pool store =
     let m = c.args.self.now in
     let call = c.args.call in
     let rest = c.args.rest.now in
     let after = c.resume.new.self in
     let taken : Intercepted = record call { interception = record (call.interception) { scope = c.take_held-suspended.new.self } } in
-    let at : Machine → Intercepted → List Action → State → Result = λ z k actions st. later_calls S n z.top (resume S (stack z.frames) (acts_of S k actions c.args.thrown st)) in
+    let at : Machine → Intercepted → List Action → State → Result = λ z k actions st. later_calls S n z.top (unwound S (stack z.frames) (acts_of S k actions c.args.thrown st)) in
     let told = tells_resumed (state_before after pool store) in
     ap (λ older. at m call rest (resumed (option_map context_of older) (state_before m pool store))) (sym c.take_held-suspended.ensures.held ∙ c.in-Some.is)
     ∙ ap (at m call rest) (c.resume.ensures.state pool store)
@@ -61,7 +61,7 @@ returns-in-None-clause-goes c S n pool store =
     let call = c.args.call in
     let rest = c.args.rest.now in
     let taken : Intercepted = record call { interception = record (call.interception) { scope = c.take_held-suspended.new.self } } in
-    let at : Intercepted → List Action → State → Result = λ k actions st. later_calls S n m.top (resume S (stack m.frames) (acts_of S k actions c.args.thrown st)) in
+    let at : Intercepted → List Action → State → Result = λ k actions st. later_calls S n m.top (unwound S (stack m.frames) (acts_of S k actions c.args.thrown st)) in
     ap (λ older. at call rest (resumed (option_map context_of older) (state_before m pool store))) (sym c.take_held-suspended.ensures.held ∙ c.in-None.is)
     ∙ ap (λ actions. at call actions (state_before m pool store)) c.requires.last
     ∙ ap (λ actions. at taken actions (state_before m pool store)) (sym c.requires.last)

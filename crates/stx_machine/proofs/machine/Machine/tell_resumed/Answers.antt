@@ -10,7 +10,7 @@ use Rattle.stx_model.specs.Scopes.{leaves}
 use Rattle.stx_model.specs.Statements.{caught}
 use Rattle.stx_machine.specs.declared.machine.Machine.{Machine}
 use Rattle.stx_machine.specs.declared.stage.Stage.{Stage}
-use Rattle.stx_machine.specs.Machine.{acts_of, later_calls, of_top, phase_after, resume, resumes_call, stack, state_before, told_line}
+use Rattle.stx_machine.specs.Machine.{acts_of, later_calls, of_top, phase_after, unwound, resumes_call, stack, state_before, told_line}
 use Rattle.stx_machine.specs.Sound.{CallResumes, CallsRun, IsSound, ResumesIn, Shelters, below_rest, due_in, ends_syncs, standing_of}
 use Rattle.stx_machine.proofs.Places.{built_in_known}
 use Rattle.stx_machine.proofs.Standings.{below_none, unowned}
@@ -18,7 +18,7 @@ use Rattle.stx_machine.proofs.Telling.{tells_lines, with_lines}
 use Rattle.stx_machine.proofs.machine.Machine.tell_resumed.Goals as goal
 
 pub returns-in-Completing-clause-goes : goal.returns-in-Completing-clause-goes
-unfolding resume
+unfolding unwound
 returns-in-Completing-clause-goes c S n pool store =
     let m = c.args.self.now in
     let st = state_before m pool store in
@@ -28,10 +28,10 @@ returns-in-Completing-clause-goes c S n pool store =
     let off = c.take_off-call.new.self in
     let rest = c.in-Completing.rest.now in
     let x = c.in-Completing.thrown in
-    let leaving : Machine → State → Result = λ z u. later_calls S n z.top (resume S (stack off.frames) (acts_of S call rest x u)) in
-    ap (λ z. later_calls S n z.top (resume S (stack z.frames) (of_top S (stack z.frames) Stage.Resuming st))) (sym c.say_each.ensures.rest)
-    ∙ ap (λ fs. later_calls S n said.top (resume S fs (of_top S fs Stage.Resuming st))) c.take_off-call.ensures.call
-    ∙ ap (λ phase. later_calls S n said.top (resume S (stack off.frames) (finally (phase_after S call.method call.place i phase (resumes_call S call.method i phase st)) (caught S call.catch)))) c.in-Completing.is
+    let leaving : Machine → State → Result = λ z u. later_calls S n z.top (unwound S (stack off.frames) (acts_of S call rest x u)) in
+    ap (λ z. later_calls S n z.top (unwound S (stack z.frames) (of_top S (stack z.frames) Stage.Resuming st))) (sym c.say_each.ensures.rest)
+    ∙ ap (λ fs. later_calls S n said.top (unwound S fs (of_top S fs Stage.Resuming st))) c.take_off-call.ensures.call
+    ∙ ap (λ phase. later_calls S n said.top (unwound S (stack off.frames) (finally (phase_after S call.method call.place i phase (resumes_call S call.method i phase st)) (caught S call.catch)))) c.in-Completing.is
     ∙ ap (leaving said) (tells_lines true c.args.told st c.requires.told)
     ∙ ap (λ rs. leaving said (with_lines st (m.lines.items ++ map (λ r. told_line true r.label) rs))) (sym c.as_slice.ensures)
     ∙ ap (λ ls. leaving said (with_lines st ls)) (sym c.say_each.ensures.said)
@@ -67,7 +67,7 @@ returns-in-Completing-clause-sound c S playable resumes top holds =
     subst (IsSound S c.go_on_with.new.self) (sym c.go_on_with.ensures.held) sound
 
 pub returns-in-Opening-clause-goes : goal.returns-in-Opening-clause-goes
-unfolding resume
+unfolding unwound
 returns-in-Opening-clause-goes c S n pool store =
     let m = c.args.self.now in
     let st = state_before m pool store in
@@ -76,10 +76,10 @@ returns-in-Opening-clause-goes c S n pool store =
     let i = call.interception in
     let off = c.take_off-call.new.self in
     let refused : State → Result = λ u. finally (leaves call.method (Some CANNOT_CREATE_TRANSACTION_EXCEPTION) (say (Line.Throw CANNOT_CREATE_TRANSACTION_EXCEPTION) u)) (caught S call.catch) in
-    let leaving : Machine → State → Result = λ z u. later_calls S n z.top (resume S (stack off.frames) (refused u)) in
-    ap (λ z. later_calls S n z.top (resume S (stack z.frames) (of_top S (stack z.frames) Stage.Resuming st))) (sym c.say_each.ensures.rest)
-    ∙ ap (λ fs. later_calls S n said.top (resume S fs (of_top S fs Stage.Resuming st))) c.take_off-call.ensures.call
-    ∙ ap (λ phase. later_calls S n said.top (resume S (stack off.frames) (finally (phase_after S call.method call.place i phase (resumes_call S call.method i phase st)) (caught S call.catch)))) c.in-Opening.is
+    let leaving : Machine → State → Result = λ z u. later_calls S n z.top (unwound S (stack off.frames) (refused u)) in
+    ap (λ z. later_calls S n z.top (unwound S (stack z.frames) (of_top S (stack z.frames) Stage.Resuming st))) (sym c.say_each.ensures.rest)
+    ∙ ap (λ fs. later_calls S n said.top (unwound S fs (of_top S fs Stage.Resuming st))) c.take_off-call.ensures.call
+    ∙ ap (λ phase. later_calls S n said.top (unwound S (stack off.frames) (finally (phase_after S call.method call.place i phase (resumes_call S call.method i phase st)) (caught S call.catch)))) c.in-Opening.is
     ∙ ap (leaving said) (tells_lines true c.args.told st c.requires.told)
     ∙ ap (λ rs. leaving said (with_lines st (m.lines.items ++ map (λ r. told_line true r.label) rs))) (sym c.as_slice.ensures)
     ∙ ap (λ ls. leaving said (with_lines st ls)) (sym c.say_each.ensures.said)
