@@ -1,6 +1,6 @@
 -- Each piece of a script breaks only at a note that doesn't answer, where what it calls is of lower rank: what a scope
 -- takes for granted at its end, its transaction and its registrations, is there still.
-use Rattle.std.proofs.Common.{◌≡◌, ◌≢◌, ◌+◌, ◌<◌, ◌≤◌, ◌==◌, ◌∷◌, [], Bool, true, false, ℤ, ◌+ℤ◌, List, Option, Some, None, refl, sym, ◌∙◌, subst, arith, eq-eqb, eqb-true}
+use Rattle.std.proofs.Common.{◌≡◌, ◌≢◌, ◌+◌, ◌<◌, ◌≤◌, ◌==◌, ◌∷◌, [], Bool, true, false, ℤ, ◌+ℤ◌, List, Option, Some, None, refl, sym, ap, ◌∙◌, subst, arith, eq-eqb, eqb-true}
 use Rattle.std.specs.Prelude.{⊤, ℕ, zero, suc, int_lt, slice_get}
 use Rattle.std.specs.List.{AllByRecursion}
 use Rattle.std.specs.Option.{is_some}
@@ -12,7 +12,6 @@ use Rattle.stx_scenario.specs.declared.numbers.RowNo.{RowNo}
 use Rattle.stx_scenario.specs.declared.classes.TheConstants.{ILLEGAL_STATE_EXCEPTION, ARITHMETIC_EXCEPTION, CANNOT_ACQUIRE_LOCK_EXCEPTION, CANNOT_GET_JDBC_CONNECTION_EXCEPTION, UNEXPECTED_ROLLBACK_EXCEPTION}
 use Rattle.stx_scenario.specs.declared.scenario.Scenario.{Scenario}
 use Rattle.stx_scenario.specs.declared.scenario.Listener.{Listener}
-use Rattle.stx_scenario.specs.declared.scenario.Propagation.{Propagation}
 use Rattle.stx_scenario.specs.declared.scenario.Stmt.{Stmt}
 use Rattle.stx_scenario.specs.declared.scenario.TxAttr.{TxAttr}
 use Rattle.stx_base.specs.declared.manager.Action.{Action}
@@ -28,7 +27,7 @@ use Rattle.stx_base.specs.declared.manager.Round.{Round}
 use Rattle.stx_base.specs.Attributes.{attribute}
 use Rattle.stx_base.specs.Weight.{body_of, rank}
 use Rattle.stx_model.specs.Contexts.{Context, Live, Registration, is_active, is_live, marked_globally, ordered, ordered_labels, registered, with_global_mark, without_syncs}
-use Rattle.stx_model.specs.Opening.{opening, opening_in, opening_without}
+use Rattle.stx_model.specs.Opening.{opening}
 use Rattle.stx_model.specs.Ending.{ending, has_before_commit, completion, completion_after}
 use Rattle.stx_model.specs.Listeners.{Deed, Register, RunNow, Skip, deeds, runs_in}
 use Rattle.stx_base.specs.Notes.{is_answer}
@@ -42,6 +41,7 @@ use Rattle.stx_model.specs.Below.{listener_body, CallbackBelow, CallbacksBelow, 
 use Rattle.stx_model.proofs.Callable.{label_raise, registered_raise, all_append, by_order_all}
 use Rattle.stx_model.proofs.SteadyPieces.{fresh_scope, in_fresh}
 use Rattle.stx_model.proofs.Breaks.{EndsWell, Brings, finally_ends, and_then_ends, either_ends, live_in_ends, ask_brings, on_take_brings, on_begin_brings, on_access_brings, on_auto_brings}
+use Rattle.stx_model.proofs.Openings.{opening_tells}
 
 -- ---- pieces that leave the context as it is
 
@@ -233,29 +233,12 @@ abbrev MayOpen : Bool → Opening → Type 0
 MayOpen live Opening.Point = live ≡ true
 MayOpen live _ = ⊤
 
-may_open_live : (o : Opening) → MayOpen true o
-may_open_live Opening.Point = refl
-may_open_live (Opening.Refuse x) = tt
-may_open_live (Opening.Fresh suspends owns) = tt
-may_open_live Opening.Join = tt
-may_open_live (Opening.Empty suspends owns) = tt
-
 opening_may : (S : Scenario) (a : TxAttr) (context : Context) → MayOpen (is_live context) (opening S.settings a context)
-unfolding opening
-opening_may S a context = by_tx context.tx
+opening_may S a context = by (opening S.settings a context) refl
   where
-    by_propagation : (p : Propagation) → MayOpen false (opening_without S.settings context p)
-    by_propagation Propagation.Required = tt
-    by_propagation Propagation.Supports = tt
-    by_propagation Propagation.Mandatory = tt
-    by_propagation Propagation.RequiresNew = tt
-    by_propagation Propagation.NotSupported = tt
-    by_propagation Propagation.Never = tt
-    by_propagation Propagation.Nested = tt
-
-    by_tx : (tx : Option Live) → MayOpen (is_some tx) (opening_in S.settings a context tx)
-    by_tx (Some live) = may_open_live (opening_in S.settings a context (Some live))
-    by_tx None = by_propagation a.propagation
+    by : (o : Opening) → opening S.settings a context ≡ o → MayOpen (is_live context) o
+    by Opening.Point is = ap is_some (opening_tells S.settings a context Opening.Point is).1
+    by o is = tt
 
 -- ---- given that calls of lower rank break only so
 

@@ -138,10 +138,7 @@ module _ (S : Scenario) (k : ℕ) where
   registered_below : (o : Option SyncDecl) → ((sync : SyncDecl) → o ≡ Some sync → SyncMay sync) → LedBelow S k (calls (callbacks_in o))
       → (round : Round) → CallbacksBelow S k (sync_body round o)
   registered_below (Some sync) may below round = sync_below sync (may sync refl) below round
-  registered_below None may below Round.BeforeCommit = tt
-  registered_below None may below Round.BeforeCompletion = tt
-  registered_below None may below Round.AfterCommit = tt
-  registered_below None may below Round.AfterCompletion = tt
+  registered_below None may below round = tt
 
   -- ---- listeners
 

@@ -39,13 +39,7 @@ commits H e = cons_option (committed_note (store_notes H) e.client e.note) []
 
 own_commit : (notes : List StoreNote) (c : ℕ) (m : StoreNote) → committed_note (notes ++ m ∷ []) c m ≡ committed_note notes c m
 own_commit notes c (StoreNote.Commit t k) = ap (λ w. Some (record { client = c; tx = Some t; work = w })) (work_same notes (StoreNote.Commit t k) t refl)
-own_commit notes c (StoreNote.Auto a r) = refl
-own_commit notes c (StoreNote.Begin t) = refl
-own_commit notes c (StoreNote.Access t a r) = refl
-own_commit notes c (StoreNote.Point t) = refl
-own_commit notes c (StoreNote.BackTo t) = refl
-own_commit notes c (StoreNote.Release t) = refl
-own_commit notes c (StoreNote.Rollback t) = refl
+own_commit notes c n = refl
 
 pub journal-push : (H : List StoreEntry) (e : StoreEntry) → WorksLive (store_notes H) e.note → journal (H ++ e ∷ []) ≡ journal H ++ commits H e
 journal-push H e apart =
