@@ -32,7 +32,7 @@ use Rattle.stx_model.specs.Ending.{ending, has_before_commit, completion, comple
 use Rattle.stx_model.specs.Listeners.{Deed, Register, RunNow, Skip, deeds, runs_in}
 use Rattle.stx_base.specs.Notes.{is_answer}
 use Rattle.stx_base.specs.declared.history.Note.{Note}
-use Rattle.stx_model.specs.Meanings.{State, Over, Meaning, finally, say, with_context, with_local, ask, on_take, on_begin, on_access}
+use Rattle.stx_model.specs.Meanings.{State, Over, Meaning, finally, say, with_context, with_local, ask, on_take, on_begin, on_access, and_then}
 use Rattle.stx_model.specs.Statements.{throws, concludes, catches, caught, RowAccess, unless_busy, access_row, nothing_more, value_of, is_value, needed, added, on_row, in_transaction, on_connection, connected, row_statement, marks, registers, register_listener}
 use Rattle.stx_model.specs.Rounds.{Calls, Way, Proxied, Direct, sync_body, callback_line, swallows, round_of, callback_statement, callback, listens, listens_in, called_back, told, stopping_round, swallowing_round, last_round}
 use Rattle.stx_model.specs.Scopes.{say_each, say_bind, suspend, resume, resumed, suspended, older_if, Scope, leaves, live_in, later_or, started_syncs, fresh_context, rolls, ruled, is_set, acts, completes, ends, in_scope, within, begins, empty, opens, intercepted}
@@ -261,6 +261,10 @@ registers_sound S k r below j live le st fits = by_syncs st.context.syncs fits.1
     by_syncs None all = fits
 
 module _ (S : Scenario) (calls : Calls) (k : ℕ) (calls_sound : AreSound S k calls) where
+  -- a piece, and what comes after it
+  both_sound : (first rest : Meaning) → IsSound S k first → IsSound S k rest → IsSound S k (λ st. and_then (first st) rest)
+  both_sound first rest sound later j live le st fits = and_then_ends (At S j live) (first st) rest (sound j live le st fits) (later j live le)
+
   -- ---- callbacks and rounds
 
   callback_statement_sound : (s : Stmt) → CallbackBelow S k s → IsSound S k (callback_statement S calls s)
@@ -277,10 +281,8 @@ module _ (S : Scenario) (calls : Calls) (k : ℕ) (calls_sound : AreSound S k ca
 
   callback_sound : (body : List Stmt) → CallbacksBelow S k body → IsSound S k (callback S calls body)
   unfolding callback
-  callback_sound [] below j live le st fits = fits
-  callback_sound (s ∷ later) below j live le st fits =
-      and_then_ends (At S j live) (callback_statement S calls s st) (callback S calls later)
-      (callback_statement_sound s below.0 j live le st fits) (callback_sound later below.1 j live le)
+  callback_sound [] below = λ j live le st fits. fits
+  callback_sound (s ∷ later) below = both_sound (callback_statement S calls s) (callback S calls later) (callback_statement_sound s below.0) (callback_sound later below.1)
 
   listens_sound : (l : ListenerNo) (listener : Option Listener) → CallbacksBelow S k (listener_body listener) → IsSound S k (listens S calls l listener)
   listens_sound l (Some listener) below j live le st fits = callback_sound listener.body below j live le (say (Line.Listen l) st) fits
@@ -480,15 +482,12 @@ module _ (S : Scenario) (calls : Calls) (k : ℕ) (calls_sound : AreSound S k ca
 
   deals_sound : (ds : List Deed) → AllByRecursion (DeedBelow S k) ds → IsSound S k (deals S calls ds)
   unfolding deals
-  deals_sound [] below j live le st fits = fits
-  deals_sound (Register l ∷ later) below j live le st fits =
-      and_then_ends (At S j live) (register_listener S l st) (deals S calls later) (registers_sound S k _ below.0 j live le st fits)
-      (deals_sound later below.1 j live le)
-  deals_sound (RunNow l ∷ later) below j live le st fits =
+  deals_sound [] below = λ j live le st fits. fits
+  deals_sound (Register l ∷ later) below = both_sound (register_listener S l) (deals S calls later) (registers_sound S k _ below.0) (deals_sound later below.1)
+  deals_sound (RunNow l ∷ later) below =
       let listener = slice_get S.listeners l.0 in
-      and_then_ends (At S j live) (listens S calls l listener st) (deals S calls later) (listens_sound l listener below.0 j live le st fits)
-      (deals_sound later below.1 j live le)
-  deals_sound (Skip l ∷ later) below j live le st fits = deals_sound later below.1 j live le (say (Line.Skip l) st) fits
+      both_sound (listens S calls l listener) (deals S calls later) (listens_sound l listener below.0) (deals_sound later below.1)
+  deals_sound (Skip l ∷ later) below = λ j live le st fits. deals_sound later below.1 j live le (say (Line.Skip l) st) fits
 
   statement_sound : (s : Stmt) → StatementBelow S k s → IsSound S k (statement S calls s)
   unfolding statement
@@ -504,10 +503,8 @@ module _ (S : Scenario) (calls : Calls) (k : ℕ) (calls_sound : AreSound S k ca
 
   body_sound : (statements : List Stmt) → StatementsBelow S k statements → IsSound S k (body S calls statements)
   unfolding body
-  body_sound [] below j live le st fits = fits
-  body_sound (s ∷ statements) below j live le st fits =
-      and_then_ends (At S j live) (statement S calls s st) (body S calls statements)
-      (statement_sound s below.0 j live le st fits) (body_sound statements below.1 j live le)
+  body_sound [] below = λ j live le st fits. fits
+  body_sound (s ∷ statements) below = both_sound (statement S calls s) (body S calls statements) (statement_sound s below.0) (body_sound statements below.1)
 
   -- ---- calls
 
