@@ -1,8 +1,7 @@
 -- Laws of tests on lists: whether some element passes, of a filtered, a mapped and a longer list.
-use Rattle.std.proofs.Common.{◌≡◌, ℕ, Bool, true, false, ◌&&◌, ◌||◌, ◌==◌, cond, List, [], ◌∷◌, ◌++◌, map, refl, ◌∙◌, ⊎_elim, arith, filter}
+use Rattle.std.proofs.Common.{◌≡◌, ℕ, Bool, true, false, ◌&&◌, ◌||◌, ◌==◌, cond, List, [], ◌∷◌, map, refl, ◌∙◌, ⊎_elim, arith, filter}
 use Rattle.std.specs.List.{list_any}
 use Rattle.std.proofs.lemmas.Bool.{or_cases, or_left, or_right}
-use Rattle.std.proofs.lemmas.List.Folds.{list_any-append}
 use Rattle.stx_base.specs.Pools.{contains}
 
 pub any-filter : {X : Type 0} (p q : X → Bool) (xs : List X) → list_any q (filter p xs) ≡ list_any (λ x. p x && q x) xs
@@ -28,9 +27,6 @@ pub any_since :
 any_since p q since [] h = h
 any_since p q since (x ∷ xs) h =
     ⊎_elim (λ here. or_left _ _ (since x here)) (λ later. or_right _ _ (any_since p q since xs later)) (or_cases _ _ h)
-
-pub any_push : {X : Type 0} (p : X → Bool) (xs : List X) (x : X) → list_any p (xs ++ x ∷ []) ≡ (list_any p xs || p x)
-any_push p xs x = list_any-append p xs (x ∷ []) ∙ grind arith
 
 pub contains-filter : (p : ℕ → Bool) (xs : List ℕ) (t : ℕ) → contains (filter p xs) t ≡ (p t && contains xs t)
 contains-filter p xs t = any-filter p (λ m. m == t) xs ∙ any-same _ (λ m. p t && (m == t)) same xs ∙ taken_out (p t)

@@ -12,9 +12,10 @@ use Rattle.stx_base.specs.Alone.{row_of}
 use Rattle.stx_base.specs.Histories.{store_notes}
 use Rattle.stx_base.specs.Pools.{contains}
 use Rattle.stx_base.specs.Stores.{ends, live, is_live, is_busy, takes, holders, is_caller, conflicts, smallest, works, work, busy_or, access_answer, auto_answer, store_reply, store_want}
-use Rattle.stx_model.proofs.SerialLists.{any-filter, any-same, any_push, any_since, contains-filter}
+use Rattle.stx_model.proofs.SerialLists.{any-filter, any-same, any_since, contains-filter}
 use Rattle.stx_model.proofs.SerialAlone.{reaches, writes, reaches-since_writes}
 use Rattle.stx_model.proofs.SerialNames.{begins, names, Sound, live-is}
+use Rattle.stx_base.proofs.HistoryLaws.{list_any-push}
 
 -- ---- the work of a transaction after one more note
 
@@ -39,7 +40,7 @@ any_work_push :
     (p : StoreNote → Bool) (notes : List StoreNote) (n : StoreNote) (t : ℕ)
     → list_any p (work (notes ++ n ∷ []) t) ≡ (list_any p (work notes t) || (works t n && p n))
 any_work_push p notes n t =
-    any-filter (works t) p (notes ++ n ∷ []) ∙ any_push (λ m. works t m && p m) notes n
+    any-filter (works t) p (notes ++ n ∷ []) ∙ list_any-push (λ m. works t m && p m) notes n
     ∙ ap (λ b. b || (works t n && p n)) (sym (any-filter (works t) p notes))
 
 -- what lives after a note lived before and isn't ended by it, or is begun by it
@@ -47,7 +48,7 @@ pub lived :
     (notes : List StoreNote) (n : StoreNote) (t : ℕ) → is_live (notes ++ n ∷ []) t ≡ true
     → ((is_live notes t ≡ true) × (ends t n ≡ false)) ⊎ (begins t n ≡ true)
 lived notes n t h =
-    let parts = and_parts _ _ (rw (live-is (notes ++ n ∷ []) t, any_push (ends t) notes n, any_push (begins t) notes n) at h) in
+    let parts = and_parts _ _ (rw (live-is (notes ++ n ∷ []) t, list_any-push (ends t) notes n, list_any-push (begins t) notes n) at h) in
     let unended = or_parts _ _ (not-true _ parts.0) in
     ⊎_elim (λ old. inl (rw (live-is notes t) (and_from _ _ (not_from_false _ unended.0) old), unended.1)) (λ new. inr new) (or_cases _ _ parts.1)
 

@@ -11,7 +11,8 @@ use Rattle.stx_base.specs.Histories.{store_notes, store_notes_of}
 use Rattle.stx_base.specs.Pools.{contains}
 use Rattle.stx_base.specs.Stores.{begun_by, begun, ends, is_live, works, store_reply, store_want, store_proper}
 use Rattle.stx_base.specs.Legal.{StoreFits}
-use Rattle.stx_model.proofs.SerialLists.{any-filter, any-map, any_push, any_since, contains-filter}
+use Rattle.stx_model.proofs.SerialLists.{any-filter, any-map, any_since, contains-filter}
+use Rattle.stx_base.proofs.HistoryLaws.{list_any-push}
 
 -- ---- the clients' notes together are the history's
 
@@ -34,7 +35,7 @@ pub of_client_push :
     (p : StoreNote → Bool) (history : List StoreEntry) (e : StoreEntry) (c : ℕ)
     → list_any p (store_notes_of (history ++ e ∷ []) c) ≡ (list_any p (store_notes_of history c) || ((e.client == c) && p e.note))
 of_client_push p history e c =
-    rw (any-of_client p (history ++ e ∷ []) c, any-of_client p history c) (any_push (λ e. (e.client == c) && p e.note) history e)
+    rw (any-of_client p (history ++ e ∷ []) c, any-of_client p history c) (list_any-push (λ e. (e.client == c) && p e.note) history e)
 
 -- the notes of a history, and one more
 abbrev pub notes_with : List StoreEntry → StoreNote → List StoreNote
@@ -167,7 +168,7 @@ names_push history e known fits = record { below = below; owned = owned; named =
     below t h = rw (notes_push history e) (⊎_elim
         (λ old. le_trans (known.below t old) (begun_longer (store_notes history) e.note))
         (λ new. let fresh = fits.fresh t new in let more = begun_one_more (store_notes history) e.note t new in omega arith)
-        (or_cases _ _ (rw (notes_push history e, any_push (begins t) (store_notes history) e.note) at h)))
+        (or_cases _ _ (rw (notes_push history e, list_any-push (begins t) (store_notes history) e.note) at h)))
 
     -- the transaction that the entry begins was begun by nobody before
     first : (t c : ℕ) → begins t e.note ≡ true → list_any (begins t) (store_notes_of history c) ≡ true → ⊥

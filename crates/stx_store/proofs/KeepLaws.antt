@@ -82,11 +82,11 @@ length_returned (p ∷ ps) = refl
 
 -- ---- a row that the transaction hasn't taken
 
-cons_head : {A : Type 0} (x y : A) (xs ys : List A) → ◌≡◌ {A = List A} (x ∷ xs) (y ∷ ys) → x ≡ y
-cons_head x y xs ys e = cc
+pub head_of : {A : Type 0} {x y : A} {xs ys : List A} → ◌≡◌ {A = List A} (x ∷ xs) (y ∷ ys) → x ≡ y
+head_of e = cc
 
-cons_tail : {A : Type 0} (x y : A) (xs ys : List A) → ◌≡◌ {A = List A} (x ∷ xs) (y ∷ ys) → xs ≡ ys
-cons_tail x y xs ys e = cc
+pub tail_of : {A : Type 0} {x y : A} {xs ys : List A} → ◌≡◌ {A = List A} (x ∷ xs) (y ∷ ys) → xs ≡ ys
+tail_of e = cc
 
 abbrev cell : Option ℤ → List (Option ℤ) → Cell
 cell value copies = record { value = value; copies = copies }
@@ -103,14 +103,14 @@ mirrors-back v b h g s c m = by_copies c.copies m.older
   where
     by_copies : (copies : List (Option ℤ)) → unrolled v (h ∷ g ∷ s) ≡ copies ++ b ∷ [] → Mirrors (unwrap_or h v) b (None ∷ g ∷ s) (cell (innermost c.value copies) copies)
     by_copies [] older = absurd (omega (arith, ap length older))
-    by_copies (copy ∷ copies) older = record { now = cons_head _ _ _ _ older; older = older }
+    by_copies (copy ∷ copies) older = record { now = head_of older; older = older }
 
 pub mirrors-release : (v b : Option ℤ) (h g : Option (Option ℤ)) (s : OlderStack) (c : Cell) → Mirrors v b (h ∷ g ∷ s) c → Mirrors v b (or_else g h ∷ s) (cell c.value (without_innermost c.copies))
 mirrors-release v b h g s c m = by_copies c.copies m.older
   where
     by_copies : (copies : List (Option ℤ)) → unrolled v (h ∷ g ∷ s) ≡ copies ++ b ∷ [] → Mirrors v b (or_else g h ∷ s) (cell c.value (without_innermost copies))
     by_copies [] older = absurd (omega (arith, ap length older))
-    by_copies (copy ∷ copies) older = record { now = m.now; older = ap (λ x. x ∷ unrolled x s) (unwrap-both g h v) ∙ cons_tail _ _ _ _ older }
+    by_copies (copy ∷ copies) older = record { now = m.now; older = ap (λ x. x ∷ unrolled x s) (unwrap-both g h v) ∙ tail_of older }
 
 -- ---- a row that the transaction hasn't taken
 
@@ -131,7 +131,7 @@ fresh_back b n c m = by_copies c.copies m.older
   where
     by_copies : (copies : List (Option ℤ)) → unrolled b (nones (suc n)) ≡ copies ++ b ∷ [] → Fresh b n (cell (innermost c.value copies) copies)
     by_copies [] older = record { now = m.now; older = older }
-    by_copies (copy ∷ copies) older = record { now = cons_head _ _ _ _ older; older = older }
+    by_copies (copy ∷ copies) older = record { now = head_of older; older = older }
 
 fresh_release : (b : Option ℤ) (ps : List Bool) (c : Cell) → Fresh b (length ps) c → Fresh b (length (without_innermost ps)) (cell c.value (without_innermost c.copies))
 fresh_release b ps c m = by_copies ps c.copies m.older
@@ -141,7 +141,7 @@ fresh_release b ps c m = by_copies ps c.copies m.older
     by_copies [] (copy ∷ []) older = absurd (omega (arith, ap length older))
     by_copies [] (copy ∷ more ∷ copies) older = absurd (omega (arith, ap length older))
     by_copies (p ∷ ps) [] older = absurd (omega (arith, ap length older))
-    by_copies (p ∷ ps) (copy ∷ copies) older = record { now = m.now; older = cons_tail _ _ _ _ older }
+    by_copies (p ∷ ps) (copy ∷ copies) older = record { now = m.now; older = tail_of older }
 
 fresh_step : (t k : ℕ) (b : Option ℤ) (ps : List Bool) (c : Cell) (n : StoreNote) → takes t k n ≡ false → Fresh b (length ps) c → Fresh b (length (pointed t ps n)) (worked_one t k c n)
 fresh_step t k b ps c (StoreNote.Access u a r) free m = by_test (u == t) (row_of a == k) refl (is_busy r) free
