@@ -10,8 +10,8 @@ use Rattle.stx_base.specs.declared.history.Access.{Access}
 use Rattle.stx_base.specs.declared.history.StoreNote.{StoreNote}
 use Rattle.stx_base.specs.Alone.{innermost, without_innermost, row_of}
 use Rattle.stx_base.specs.Stores.{begun, ends, is_live, is_busy, takes, pointed, savepoints, works, work, with_return}
-use Rattle.stx_base.proofs.HistoryLaws.{or-false, or_none, list_any-push, is_live-parts, is_live-push, savepoints-push}
-use Rattle.stx_base.proofs.StoreLaws.{names, is_live_none, savepoints_none, is_live-push_other, savepoints-push_other}
+use Rattle.stx_base.proofs.HistoryLaws.{or-false, or_none, list_any-push, is_live-push, savepoints-push}
+use Rattle.stx_base.proofs.StoreLaws.{names, is_live_none, savepoints_none, is_live-push_other, savepoints-push_other, is_live-push_kept}
 use Rattle.std.proofs.lemmas.Cmp.{nat_eq_equiv}
 use Rattle.stx_base.specs.Pools.{contains}
 use Rattle.stx_locks.specs.Locks.{unless_held_by}
@@ -53,13 +53,7 @@ any_takes-none (n ∷ notes) t k h =
 
 -- a note that neither begins nor ends a transaction lets it live
 pub live_same : (notes : List StoreNote) (n : StoreNote) (t : ℕ) → begun (n ∷ []) ≡ [] → ends t n ≡ false → is_live (notes ++ n ∷ []) t ≡ is_live notes t
-live_same own n t none still =
-    is_live-push own n t
-    ∙ ap (λ us. (contains (begun own) t || contains us t) && not (list_any (ends t) own || ends t n)) none
-    ∙ ap (λ b. b && not (list_any (ends t) own || ends t n)) (or-false (contains (begun own) t))
-    ∙ ap (λ b. contains (begun own) t && not (list_any (ends t) own || b)) still
-    ∙ ap (λ b. contains (begun own) t && not b) (or-false (list_any (ends t) own))
-    ∙ sym (is_live-parts own t)
+live_same own n t none still = is_live-push_kept own n t (ap (λ us. contains us t) none) still
 
 pub dead : (own : List StoreNote) (n : StoreNote) (t : ℕ) → ends t n ≡ true → is_live (own ++ n ∷ []) t ≡ false
 dead own n t end =
