@@ -1,8 +1,7 @@
 -- Locks in a legal history: a row that a live transaction has written no other live transaction has reached.
-use Rattle.std.proofs.Common.{◌≡◌, ℕ, Bool, true, false, not, ◌&&◌, ◌||◌, ◌==◌, cond, List, [], ◌∷◌, ◌++◌, Option, Some, refl, sym, ap, ◌∙◌, ⊎_elim, inl, inr, ◌⊎◌, arith, eqb-true, append-nil}
+use Rattle.std.proofs.Common.{◌≡◌, ℕ, Bool, true, false, not, ◌&&◌, ◌||◌, ◌==◌, cond, List, [], ◌∷◌, ◌++◌, Option, Some, refl, sym, ap, ◌∙◌, ⊎_elim, inl, inr, ◌⊎◌, arith, eqb-true}
 use Rattle.std.specs.List.{list_any}
 use Rattle.std.proofs.lemmas.Bool.{or_cases, or_parts, and_parts, and_from, not-true, not_from_false, false≢true, true≢false}
-use Rattle.std.proofs.lemmas.List.Elements.{filter-append}
 use Rattle.stx_base.specs.declared.facts.StoreFacts.{StoreFacts}
 use Rattle.stx_base.specs.declared.history.Access.{Access}
 use Rattle.stx_base.specs.declared.history.Answer.{Answer}
@@ -15,15 +14,9 @@ use Rattle.stx_base.specs.Stores.{ends, live, is_live, is_busy, takes, holders, 
 use Rattle.stx_model.proofs.SerialLists.{any-filter, any-same, any_since, contains-filter}
 use Rattle.stx_model.proofs.SerialAlone.{reaches, writes, reaches-since_writes}
 use Rattle.stx_model.proofs.SerialNames.{begins, names, Sound, live-is}
-use Rattle.stx_base.proofs.HistoryLaws.{list_any-push}
+use Rattle.stx_base.proofs.HistoryLaws.{list_any-push, work_same}
 
--- ---- the work of a transaction after one more note
-
-pub work_more : (notes : List StoreNote) (n : StoreNote) (t : ℕ) → works t n ≡ true → work (notes ++ n ∷ []) t ≡ work notes t ++ n ∷ []
-work_more notes n t h = filter-append (works t) notes (n ∷ []) ∙ ap (λ b. work notes t ++ cond b (n ∷ []) []) h
-
-pub work_same : (notes : List StoreNote) (n : StoreNote) (t : ℕ) → works t n ≡ false → work (notes ++ n ∷ []) t ≡ work notes t
-work_same notes n t h = filter-append (works t) notes (n ∷ []) ∙ ap (λ b. work notes t ++ cond b (n ∷ []) []) h ∙ append-nil (work notes t)
+-- ---- the work of a transaction
 
 -- a transaction that nobody has named has no work
 pub no_work : (notes : List StoreNote) (t : ℕ) → list_any (names t) notes ≡ false → work notes t ≡ []

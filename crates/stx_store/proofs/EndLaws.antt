@@ -16,7 +16,7 @@ use Rattle.stx_base.specs.declared.history.StoreEntry.{StoreEntry}
 use Rattle.stx_base.specs.Alone.{RowMap, row_of, after, net, without_innermost}
 use Rattle.stx_base.specs.Histories.{store_notes}
 use Rattle.stx_base.specs.Stores.{is_live, is_busy, pointed, savepoints, work, with_return, can_go_back, is_pointed, committed_rows, after_all, Transaction}
-use Rattle.stx_base.proofs.HistoryLaws.{savepoints-push, or-false}
+use Rattle.stx_base.proofs.HistoryLaws.{savepoints-push, or-false, work_same}
 use Rattle.stx_journal.proofs.RowChanges.{change_to, net_is, net-same, unchanged}
 use Rattle.stx_locks.specs.Locks.{LockMap, unless_held_by}
 use Rattle.stx_rows.specs.Rows.{RowsView, change_to as row_change, dropped, emptied, put_back_last, put_back_all, stack_of, some_stack, HasStack, SameValues}
@@ -24,7 +24,7 @@ use Rattle.stx_rows.proofs.RowsLaws.{or_else, moved-at, put_back-map}
 use Rattle.stx_store.specs.inner.Cells.{cell_applied, cell_stepped, cell_worked}
 use Rattle.stx_store.specs.inner.Keeping.{held_by, OlderStack, nones, unrolled, Mirrors, Keeps, KeepsRows, stack_at, changes_of}
 use Rattle.stx_store.proofs.CellLaws.{after-at}
-use Rattle.stx_store.proofs.KeepLaws.{head_of, tail_of, mirrors-point, mirrors-back, mirrors-release, untaken, live_same, work_same, any_takes-same, length_returned, free_untaken, keeps-same, keeps-worked, keeps-ended, keeps-auto}
+use Rattle.stx_store.proofs.KeepLaws.{head_of, tail_of, mirrors-point, mirrors-back, mirrors-release, untaken, live_same, any_takes-same, length_returned, free_untaken, keeps-same, keeps-worked, keeps-ended, keeps-auto}
 use Rattle.stx_store.proofs.JournalLaws.{WorksLive, commits, committed_rows-push}
 use Rattle.stx_store.proofs.OwedLaws.{entry}
 use Rattle.stx_store.proofs.StateLaws.{stack-other, stack-mine, Tall, tall, Taller, taller, undone, undone-at, undone-nones, undone-mirrors, elsewhere, names_one, base_same, with_entry}

@@ -13,10 +13,10 @@ use Rattle.stx_base.specs.Histories.{store_notes, store_notes_of}
 use Rattle.stx_base.specs.Pools.{contains}
 use Rattle.stx_base.specs.Stores.{begun, ends, is_live, works, Transaction, committed_note, committed_by, journal, after_all, committed_rows}
 use Rattle.stx_base.specs.Legal.{StoreFits}
-use Rattle.stx_base.proofs.HistoryLaws.{store_notes-push, is_live-parts}
+use Rattle.stx_base.proofs.HistoryLaws.{store_notes-push, is_live-parts, work_same}
 use Rattle.stx_base.proofs.StoreLaws.{names, lives}
 use Rattle.stx_journal.specs.Journal.{committed_as, committed_from, committed_in}
-use Rattle.stx_store.proofs.KeepLaws.{work_same, works_other}
+use Rattle.stx_store.proofs.KeepLaws.{works_other}
 use Rattle.stx_store.proofs.OwnLaws.{Owns}
 
 -- a note that works for no transaction that has ended leaves what was committed

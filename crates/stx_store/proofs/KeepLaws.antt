@@ -1,16 +1,15 @@
 -- What is kept stays right with each note.
-use Rattle.std.proofs.Common.{◌≡◌, ◌≢◌, ℕ, ℤ, suc, Bool, true, false, not, ◌&&◌, ◌||◌, ◌==◌, cond, List, [], ◌∷◌, ◌++◌, Option, Some, None, length, fold, refl, sym, ap, ◌∙◌, subst, append-nil, inl, inr, arith, eq-eqb, ne_eqb, eqb-true}
+use Rattle.std.proofs.Common.{◌≡◌, ◌≢◌, ℕ, ℤ, suc, Bool, true, false, not, ◌&&◌, ◌||◌, ◌==◌, cond, List, [], ◌∷◌, ◌++◌, Option, Some, None, length, fold, refl, sym, ap, ◌∙◌, subst, inl, inr, arith, eq-eqb, ne_eqb, eqb-true}
 use Rattle.std.proofs.Math.Bool.{or-true, and-false}
 use Rattle.std.specs.List.{list_any}
 use Rattle.std.specs.Option.{unwrap_or}
 use Rattle.std.proofs.lemmas.Bool.{false≢true, cases_eq}
-use Rattle.std.proofs.lemmas.List.Elements.{filter-append}
 use Rattle.std.proofs.lemmas.List.Sums.{fold-append}
 use Rattle.stx_base.specs.declared.history.Access.{Access}
 use Rattle.stx_base.specs.declared.history.StoreNote.{StoreNote}
 use Rattle.stx_base.specs.Alone.{innermost, without_innermost, row_of}
 use Rattle.stx_base.specs.Stores.{begun, ends, is_live, is_busy, takes, pointed, savepoints, works, work, with_return}
-use Rattle.stx_base.proofs.HistoryLaws.{or-false, or_none, list_any-push, is_live-push, savepoints-push}
+use Rattle.stx_base.proofs.HistoryLaws.{or-false, or_none, list_any-push, is_live-push, savepoints-push, work_more, work_same}
 use Rattle.stx_base.proofs.StoreLaws.{names, is_live_none, savepoints_none, is_live-push_other, savepoints-push_other, is_live-push_kept}
 use Rattle.std.proofs.lemmas.Cmp.{nat_eq_equiv}
 use Rattle.stx_base.specs.Pools.{contains}
@@ -20,12 +19,6 @@ use Rattle.stx_store.specs.inner.Cells.{Cell, cell_applied, cell_stepped, cell_w
 use Rattle.stx_store.specs.inner.Keeping.{held_by, OlderStack, nones, unrolled, Mirrors, Keeps}
 
 -- ---- the work of a transaction and a note more
-
-pub work_more : (notes : List StoreNote) (n : StoreNote) (t : ℕ) → works t n ≡ true → work (notes ++ n ∷ []) t ≡ work notes t ++ n ∷ []
-work_more notes n t h = filter-append (works t) notes (n ∷ []) ∙ ap (λ b. work notes t ++ cond b (n ∷ []) []) h
-
-pub work_same : (notes : List StoreNote) (n : StoreNote) (t : ℕ) → works t n ≡ false → work (notes ++ n ∷ []) t ≡ work notes t
-work_same notes n t h = filter-append (works t) notes (n ∷ []) ∙ ap (λ b. work notes t ++ cond b (n ∷ []) []) h ∙ append-nil (work notes t)
 
 pub cell_more : (notes : List StoreNote) (n : StoreNote) (t k : ℕ) (base : Option ℤ) → works t n ≡ true → cell_worked k base (work (notes ++ n ∷ []) t) ≡ cell_stepped k (cell_worked k base (work notes t)) n
 cell_more notes n t k base h = ap (cell_worked k base) (work_more notes n t h) ∙ fold-append (cell_stepped k) (record { value = base; copies = [] }) (work notes t) (n ∷ [])
