@@ -12,7 +12,7 @@ use Rattle.stx_base.specs.declared.history.StoreEntry.{StoreEntry}
 pub use Rattle.stx_base.specs.Histories.{sum_below}
 use Rattle.stx_base.specs.Histories.{pool_notes_of, store_notes, store_notes_of}
 use Rattle.stx_base.specs.Pools.{contains}
-use Rattle.stx_base.specs.Stores.{begun, ends, is_live, pointed, savepoints}
+use Rattle.stx_base.specs.Stores.{begun, ends, is_live, works, work, pointed, savepoints}
 
 -- ---- tests
 
@@ -72,6 +72,13 @@ is_live-push ns n t =
 
 pub savepoints-push : (ns : List StoreNote) (n : StoreNote) (t : ℕ) → savepoints (ns ++ n ∷ []) t ≡ pointed t (savepoints ns t) n
 savepoints-push ns n t = fold-append (pointed t) [] ns (n ∷ [])
+
+-- the work of a transaction, and one note more
+pub work_more : (notes : List StoreNote) (n : StoreNote) (t : ℕ) → works t n ≡ true → work (notes ++ n ∷ []) t ≡ work notes t ++ n ∷ []
+work_more notes n t h = filter-append (works t) notes (n ∷ []) ∙ ap (λ b. work notes t ++ cond b (n ∷ []) []) h
+
+pub work_same : (notes : List StoreNote) (n : StoreNote) (t : ℕ) → works t n ≡ false → work (notes ++ n ∷ []) t ≡ work notes t
+work_same notes n t h = filter-append (works t) notes (n ∷ []) ∙ ap (λ b. work notes t ++ cond b (n ∷ []) []) h ∙ append-nil (work notes t)
 
 -- ---- the notes of one client
 

@@ -59,15 +59,19 @@ ends_other t n h = refl
 begun_other : (t : ℕ) (n : StoreNote) → names t n ≡ false → contains (begun (n ∷ [])) t ≡ false
 begun_other t n h = begun_none (n ∷ []) t (or-false (names t n) ∙ h)
 
--- a note that doesn't name a transaction changes nothing for it
-pub is_live-push_other : (ns : List StoreNote) (n : StoreNote) (t : ℕ) → names t n ≡ false → is_live (ns ++ n ∷ []) t ≡ is_live ns t
-is_live-push_other ns n t h =
+-- a note that neither begins nor ends a transaction lets it live
+pub is_live-push_kept : (ns : List StoreNote) (n : StoreNote) (t : ℕ) → contains (begun (n ∷ [])) t ≡ false → ends t n ≡ false → is_live (ns ++ n ∷ []) t ≡ is_live ns t
+is_live-push_kept ns n t none still =
     is_live-push ns n t
-    ∙ ap (λ b. (contains (begun ns) t || b) && not (list_any (ends t) ns || ends t n)) (begun_other t n h)
+    ∙ ap (λ b. (contains (begun ns) t || b) && not (list_any (ends t) ns || ends t n)) none
     ∙ ap (λ b. b && not (list_any (ends t) ns || ends t n)) (or-false (contains (begun ns) t))
-    ∙ ap (λ b. contains (begun ns) t && not (list_any (ends t) ns || b)) (ends_other t n h)
+    ∙ ap (λ b. contains (begun ns) t && not (list_any (ends t) ns || b)) still
     ∙ ap (λ b. contains (begun ns) t && not b) (or-false (list_any (ends t) ns))
     ∙ sym (is_live-parts ns t)
+
+-- a note that doesn't name a transaction changes nothing for it
+pub is_live-push_other : (ns : List StoreNote) (n : StoreNote) (t : ℕ) → names t n ≡ false → is_live (ns ++ n ∷ []) t ≡ is_live ns t
+is_live-push_other ns n t h = is_live-push_kept ns n t (begun_other t n h) (ends_other t n h)
 
 pub savepoints-push_other : (ns : List StoreNote) (n : StoreNote) (t : ℕ) → names t n ≡ false → savepoints (ns ++ n ∷ []) t ≡ savepoints ns t
 savepoints-push_other ns n t h = savepoints-push ns n t ∙ pointed_other t (savepoints ns t) n h

@@ -1,11 +1,10 @@
 -- Laws of rank and cost: what a scenario's methods lead to is in range, and without a cycle rank and cost are what the
 -- methods to which a method leads make them.
-use Rattle.std.proofs.Common.{◌≡◌, ℕ, zero, suc, ◌+◌, ◌<◌, Bool, true, false, ◌||◌, ◌==◌, cond, List, [], ◌∷◌, ◌++◌, Option, Some, None, length, map, refl, sym, ◌∙◌, ap, subst, ⊎_elim, arith, filter}
+use Rattle.std.proofs.Common.{◌≡◌, ℕ, zero, suc, ◌+◌, ◌<◌, Bool, true, false, ◌||◌, ◌==◌, cond, List, [], ◌∷◌, ◌++◌, Option, Some, None, length, map, refl, sym, ◌∙◌, ap, ⊎_elim, arith, filter}
 use Rattle.std.specs.List.{All, flat_map, slice_get}
 use Rattle.std.proofs.lemmas.Bool.{or_cases, or_left, or_right, false≢true}
 use Rattle.std.proofs.lemmas.List.Folds.{list_any-append}
 use Rattle.std.proofs.lemmas.List.Elements.{All-nil, All-head, All-tail, All-append}
-use Rattle.std.proofs.lemmas.Option.{slice_get_within, get_or_from_slice_get}
 use Rattle.stx_scenario.specs.declared.numbers.MethodNo.{MethodNo}
 use Rattle.stx_scenario.specs.declared.scenario.Scenario.{Scenario}
 use Rattle.stx_scenario.specs.declared.scenario.Method.{Method}
@@ -16,6 +15,7 @@ use Rattle.stx_base.specs.declared.cost.Cost.{Cost}
 use Rattle.stx_base.specs.Weight.{body_in, body_of, callbacks_in, callbacks_of, listeners_of, called, calls, led, leads, has_method, HasNoCycle, above, longest, rank, plus, total, one, callback_cost, callbacks_cost, listener_cost, statement_cost, body_cost, cost_within, cost, CallbackInRange, CallbacksInRange, StatementInRange, SyncInRange, InRange}
 use Rattle.stx_base.proofs.WayLaws.{same_method, has_itself, above_more, longest_settled, longest_all, longest_way, shallow, IsAcyclic}
 use Rattle.stx_base.specs.Laws.{RanksAreLongestWays}
+use Rattle.stx_base.proofs.ValidLaws.{entry_of}
 
 -- ---- what is in range
 
@@ -63,13 +63,10 @@ below_listeners count p (l ∷ listeners) h =
         (below_calls count l.body (All-head (ListenerInRange count) l listeners h)) rest
     step false rest = rest
 
-pub at_get : {X : Type 0} (P : X → Type 0) (xs : List X) (i : ℕ) (x : X) → All P xs → slice_get xs i ≡ Some x → P x
-at_get P xs i x all e = subst P (get_or_from_slice_get xs i x x e) (all i x (slice_get_within xs i x e))
-
 pub callbacks_range : (S : Scenario) → InRange S → (o : Option SyncDecl) (i : ℕ) → slice_get S.syncs i ≡ o → CallbacksInRange (length S.methods) (callbacks_in o)
 callbacks_range S range None i e = All-nil (CallbackInRange (length S.methods))
 callbacks_range S range (Some sync) i e =
-    let here = at_get (SyncInRange (length S.methods)) S.syncs i sync range.syncs e in
+    let here = entry_of (SyncInRange (length S.methods)) S.syncs i sync range.syncs e in
     let P = CallbackInRange (length S.methods) in
     All-append P _ _ (All-append P _ _ (All-append P _ _ here.before_commit here.before_completion) here.after_commit) here.after_completion
 
@@ -78,7 +75,7 @@ InRangeIn S s = StatementInRange (length S.methods) (length S.events) (length S.
 
 pub body_range : (S : Scenario) → InRange S → (o : Option Method) (i : ℕ) → slice_get S.methods i ≡ o → All (InRangeIn S) (body_in o)
 body_range S range None i e = All-nil (InRangeIn S)
-body_range S range (Some method) i e = at_get (λ method. All (InRangeIn S) method.body) S.methods i method range.methods e
+body_range S range (Some method) i e = entry_of (λ method. All (InRangeIn S) method.body) S.methods i method range.methods e
 
 below_led : (S : Scenario) → InRange S → (s : Stmt) → InRangeIn S s → Below (length S.methods) (led S s)
 below_led S range (Stmt.Call m x) h = below_one _ m h

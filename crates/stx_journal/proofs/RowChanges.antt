@@ -212,22 +212,18 @@ kept_set es fs k value updated =
     ∙ ap (cond (q == k) value) (sym (kept-at es q))
     ∙ sym (set_row-at (from_entries es) k value q))
 
+both : (a b : Bool) → T a → T b → T (a && b)
+both true b p q = q
+both false b p q = p
+
 rises : (k : ℕ) (es : List (ℕ × ℤ)) → AllByRecursion (λ y. nat_cmp k y ≡ Ordering.Less) (keys_of es) → T (below_all nat_cmp k es)
 rises k [] h = tt
 rises k (e ∷ es) h = both (is_lt (nat_cmp k e.0)) (below_all nat_cmp k es) (subst (λ r. T (is_lt r)) (sym h.0) tt) (rises k es h.1)
-  where
-    both : (a b : Bool) → T a → T b → T (a && b)
-    both true b p q = q
-    both false b p q = p
 
 pub rising : (es : List (ℕ × ℤ)) → IsStrictlySortedBy nat_cmp (keys_of es) → T (is_sorted nat_cmp es)
 unfolding IsStrictlySortedBy
 rising [] h = tt
 rising (e ∷ es) h = both (below_all nat_cmp e.0 es) (is_sorted nat_cmp es) (rises e.0 es h.0) (rising es h.1)
-  where
-    both : (a b : Bool) → T a → T b → T (a && b)
-    both true b p q = q
-    both false b p q = p
 
 -- entries in order are the map's
 pub kept-entries : (es : List (ℕ × ℤ)) → IsStrictlySortedBy nat_cmp (keys_of es) → entries (from_entries {R = nat_cmp} es) ≡ es

@@ -67,14 +67,7 @@ take_at_end P next (Note.Store n) st then = tt
 begin_at_end : (P : Option ClassNo → State → Type 0) (next : ℕ → Meaning) (n : Note) (st : State)
     → ((t : ℕ) → AtEnd (next t st) P) → AtEnd (on_begin next n st) P
 begin_at_end P next (Note.Store (StoreNote.Begin t)) st then = then t
-begin_at_end P next (Note.Store (StoreNote.Access t r b)) st then = tt
-begin_at_end P next (Note.Store (StoreNote.Point t)) st then = tt
-begin_at_end P next (Note.Store (StoreNote.BackTo t)) st then = tt
-begin_at_end P next (Note.Store (StoreNote.Release t)) st then = tt
-begin_at_end P next (Note.Store (StoreNote.Commit t n)) st then = tt
-begin_at_end P next (Note.Store (StoreNote.Rollback t)) st then = tt
-begin_at_end P next (Note.Store (StoreNote.Auto r b)) st then = tt
-begin_at_end P next (Note.Pool n) st then = tt
+begin_at_end P next n st then = tt
 
 -- ---- resumption
 

@@ -1,6 +1,6 @@
 -- Each piece of a script breaks only at a note that doesn't answer, where what it calls is of lower rank: what a scope
 -- takes for granted at its end, its transaction and its registrations, is there still.
-use Rattle.std.proofs.Common.{◌≡◌, ◌≢◌, ◌+◌, ◌<◌, ◌≤◌, ◌==◌, ◌∷◌, [], Bool, true, false, ℤ, ◌+ℤ◌, List, Option, Some, None, refl, sym, ◌∙◌, subst, arith, eq-eqb, eqb-true}
+use Rattle.std.proofs.Common.{◌≡◌, ◌≢◌, ◌+◌, ◌<◌, ◌≤◌, ◌==◌, ◌∷◌, [], Bool, true, false, ℤ, ◌+ℤ◌, List, Option, Some, None, refl, sym, ap, ◌∙◌, subst, arith, eq-eqb, eqb-true}
 use Rattle.std.specs.Prelude.{⊤, ℕ, zero, suc, int_lt, slice_get}
 use Rattle.std.specs.List.{AllByRecursion}
 use Rattle.std.specs.Option.{is_some}
@@ -12,7 +12,6 @@ use Rattle.stx_scenario.specs.declared.numbers.RowNo.{RowNo}
 use Rattle.stx_scenario.specs.declared.classes.TheConstants.{ILLEGAL_STATE_EXCEPTION, ARITHMETIC_EXCEPTION, CANNOT_ACQUIRE_LOCK_EXCEPTION, CANNOT_GET_JDBC_CONNECTION_EXCEPTION, UNEXPECTED_ROLLBACK_EXCEPTION}
 use Rattle.stx_scenario.specs.declared.scenario.Scenario.{Scenario}
 use Rattle.stx_scenario.specs.declared.scenario.Listener.{Listener}
-use Rattle.stx_scenario.specs.declared.scenario.Propagation.{Propagation}
 use Rattle.stx_scenario.specs.declared.scenario.Stmt.{Stmt}
 use Rattle.stx_scenario.specs.declared.scenario.TxAttr.{TxAttr}
 use Rattle.stx_base.specs.declared.manager.Action.{Action}
@@ -28,12 +27,12 @@ use Rattle.stx_base.specs.declared.manager.Round.{Round}
 use Rattle.stx_base.specs.Attributes.{attribute}
 use Rattle.stx_base.specs.Weight.{body_of, rank}
 use Rattle.stx_model.specs.Contexts.{Context, Live, Registration, is_active, is_live, marked_globally, ordered, ordered_labels, registered, with_global_mark, without_syncs}
-use Rattle.stx_model.specs.Opening.{opening, opening_in, opening_without}
+use Rattle.stx_model.specs.Opening.{opening}
 use Rattle.stx_model.specs.Ending.{ending, has_before_commit, completion, completion_after}
 use Rattle.stx_model.specs.Listeners.{Deed, Register, RunNow, Skip, deeds, runs_in}
 use Rattle.stx_base.specs.Notes.{is_answer}
 use Rattle.stx_base.specs.declared.history.Note.{Note}
-use Rattle.stx_model.specs.Meanings.{State, Over, Meaning, finally, say, with_context, with_local, ask, on_take, on_begin, on_access}
+use Rattle.stx_model.specs.Meanings.{State, Over, Meaning, finally, say, with_context, with_local, ask, on_take, on_begin, on_access, and_then}
 use Rattle.stx_model.specs.Statements.{throws, concludes, catches, caught, RowAccess, unless_busy, access_row, nothing_more, value_of, is_value, needed, added, on_row, in_transaction, on_connection, connected, row_statement, marks, registers, register_listener}
 use Rattle.stx_model.specs.Rounds.{Calls, Way, Proxied, Direct, sync_body, callback_line, swallows, round_of, callback_statement, callback, listens, listens_in, called_back, told, stopping_round, swallowing_round, last_round}
 use Rattle.stx_model.specs.Scopes.{say_each, say_bind, suspend, resume, resumed, suspended, older_if, Scope, leaves, live_in, later_or, started_syncs, fresh_context, rolls, ruled, is_set, acts, completes, ends, in_scope, within, begins, empty, opens, intercepted}
@@ -42,6 +41,7 @@ use Rattle.stx_model.specs.Below.{listener_body, CallbackBelow, CallbacksBelow, 
 use Rattle.stx_model.proofs.Callable.{label_raise, registered_raise, all_append, by_order_all}
 use Rattle.stx_model.proofs.SteadyPieces.{fresh_scope, in_fresh}
 use Rattle.stx_model.proofs.Breaks.{EndsWell, Brings, finally_ends, and_then_ends, either_ends, live_in_ends, ask_brings, on_take_brings, on_begin_brings, on_access_brings, on_auto_brings}
+use Rattle.stx_model.proofs.Openings.{opening_tells}
 
 -- ---- pieces that leave the context as it is
 
@@ -233,29 +233,12 @@ abbrev MayOpen : Bool → Opening → Type 0
 MayOpen live Opening.Point = live ≡ true
 MayOpen live _ = ⊤
 
-may_open_live : (o : Opening) → MayOpen true o
-may_open_live Opening.Point = refl
-may_open_live (Opening.Refuse x) = tt
-may_open_live (Opening.Fresh suspends owns) = tt
-may_open_live Opening.Join = tt
-may_open_live (Opening.Empty suspends owns) = tt
-
 opening_may : (S : Scenario) (a : TxAttr) (context : Context) → MayOpen (is_live context) (opening S.settings a context)
-unfolding opening
-opening_may S a context = by_tx context.tx
+opening_may S a context = by (opening S.settings a context) refl
   where
-    by_propagation : (p : Propagation) → MayOpen false (opening_without S.settings context p)
-    by_propagation Propagation.Required = tt
-    by_propagation Propagation.Supports = tt
-    by_propagation Propagation.Mandatory = tt
-    by_propagation Propagation.RequiresNew = tt
-    by_propagation Propagation.NotSupported = tt
-    by_propagation Propagation.Never = tt
-    by_propagation Propagation.Nested = tt
-
-    by_tx : (tx : Option Live) → MayOpen (is_some tx) (opening_in S.settings a context tx)
-    by_tx (Some live) = may_open_live (opening_in S.settings a context (Some live))
-    by_tx None = by_propagation a.propagation
+    by : (o : Opening) → opening S.settings a context ≡ o → MayOpen (is_live context) o
+    by Opening.Point is = ap is_some (opening_tells S.settings a context Opening.Point is).1
+    by o is = tt
 
 -- ---- given that calls of lower rank break only so
 
@@ -278,6 +261,10 @@ registers_sound S k r below j live le st fits = by_syncs st.context.syncs fits.1
     by_syncs None all = fits
 
 module _ (S : Scenario) (calls : Calls) (k : ℕ) (calls_sound : AreSound S k calls) where
+  -- a piece, and what comes after it
+  both_sound : (first rest : Meaning) → IsSound S k first → IsSound S k rest → IsSound S k (λ st. and_then (first st) rest)
+  both_sound first rest sound later j live le st fits = and_then_ends (At S j live) (first st) rest (sound j live le st fits) (later j live le)
+
   -- ---- callbacks and rounds
 
   callback_statement_sound : (s : Stmt) → CallbackBelow S k s → IsSound S k (callback_statement S calls s)
@@ -294,10 +281,8 @@ module _ (S : Scenario) (calls : Calls) (k : ℕ) (calls_sound : AreSound S k ca
 
   callback_sound : (body : List Stmt) → CallbacksBelow S k body → IsSound S k (callback S calls body)
   unfolding callback
-  callback_sound [] below j live le st fits = fits
-  callback_sound (s ∷ later) below j live le st fits =
-      and_then_ends (At S j live) (callback_statement S calls s st) (callback S calls later)
-      (callback_statement_sound s below.0 j live le st fits) (callback_sound later below.1 j live le)
+  callback_sound [] below = λ j live le st fits. fits
+  callback_sound (s ∷ later) below = both_sound (callback_statement S calls s) (callback S calls later) (callback_statement_sound s below.0) (callback_sound later below.1)
 
   listens_sound : (l : ListenerNo) (listener : Option Listener) → CallbacksBelow S k (listener_body listener) → IsSound S k (listens S calls l listener)
   listens_sound l (Some listener) below j live le st fits = callback_sound listener.body below j live le (say (Line.Listen l) st) fits
@@ -497,15 +482,12 @@ module _ (S : Scenario) (calls : Calls) (k : ℕ) (calls_sound : AreSound S k ca
 
   deals_sound : (ds : List Deed) → AllByRecursion (DeedBelow S k) ds → IsSound S k (deals S calls ds)
   unfolding deals
-  deals_sound [] below j live le st fits = fits
-  deals_sound (Register l ∷ later) below j live le st fits =
-      and_then_ends (At S j live) (register_listener S l st) (deals S calls later) (registers_sound S k _ below.0 j live le st fits)
-      (deals_sound later below.1 j live le)
-  deals_sound (RunNow l ∷ later) below j live le st fits =
+  deals_sound [] below = λ j live le st fits. fits
+  deals_sound (Register l ∷ later) below = both_sound (register_listener S l) (deals S calls later) (registers_sound S k _ below.0) (deals_sound later below.1)
+  deals_sound (RunNow l ∷ later) below =
       let listener = slice_get S.listeners l.0 in
-      and_then_ends (At S j live) (listens S calls l listener st) (deals S calls later) (listens_sound l listener below.0 j live le st fits)
-      (deals_sound later below.1 j live le)
-  deals_sound (Skip l ∷ later) below j live le st fits = deals_sound later below.1 j live le (say (Line.Skip l) st) fits
+      both_sound (listens S calls l listener) (deals S calls later) (listens_sound l listener below.0) (deals_sound later below.1)
+  deals_sound (Skip l ∷ later) below = λ j live le st fits. deals_sound later below.1 j live le (say (Line.Skip l) st) fits
 
   statement_sound : (s : Stmt) → StatementBelow S k s → IsSound S k (statement S calls s)
   unfolding statement
@@ -521,10 +503,8 @@ module _ (S : Scenario) (calls : Calls) (k : ℕ) (calls_sound : AreSound S k ca
 
   body_sound : (statements : List Stmt) → StatementsBelow S k statements → IsSound S k (body S calls statements)
   unfolding body
-  body_sound [] below j live le st fits = fits
-  body_sound (s ∷ statements) below j live le st fits =
-      and_then_ends (At S j live) (statement S calls s st) (body S calls statements)
-      (statement_sound s below.0 j live le st fits) (body_sound statements below.1 j live le)
+  body_sound [] below = λ j live le st fits. fits
+  body_sound (s ∷ statements) below = both_sound (statement S calls s) (body S calls statements) (statement_sound s below.0) (body_sound statements below.1)
 
   -- ---- calls
 

@@ -18,12 +18,13 @@ use Rattle.stx_base.specs.declared.manager.Round.{Round}
 use Rattle.stx_base.specs.Valid.{allowed_before_commit, allowed_around, allowed_in, SyncAllowed, IsInOrder}
 use Rattle.stx_base.specs.Weight.{body_in, body_of, callbacks, callbacks_in, listeners_of, called, calls, led, leads, has_method, rank}
 use Rattle.stx_base.proofs.WayLaws.{has_itself, above_more}
-use Rattle.stx_base.proofs.WeightLaws.{acyclic_from, at_get, has_append, rank_is}
+use Rattle.stx_base.proofs.WeightLaws.{acyclic_from, has_append, rank_is}
 use Rattle.stx_model.specs.Listeners.{Numbered, RunNow, Skip, deed, deeds, dealt_with, listening}
 use Rattle.stx_model.specs.Rounds.{sync_body}
 use Rattle.stx_model.specs.Script.{calls_of}
 use Rattle.stx_model.specs.Below.{listener_body, CallbackBelow, CallbacksBelow, ListenerBelow, DeedBelow, StatementBelow, StatementsBelow, MethodsBelow, Callable}
 use Rattle.stx_model.proofs.Callable.{by_order_all}
+use Rattle.stx_base.proofs.ValidLaws.{entry_of}
 
 -- ---- what callbacks may hold
 
@@ -138,10 +139,7 @@ module _ (S : Scenario) (k : ℕ) where
   registered_below : (o : Option SyncDecl) → ((sync : SyncDecl) → o ≡ Some sync → SyncMay sync) → LedBelow S k (calls (callbacks_in o))
       → (round : Round) → CallbacksBelow S k (sync_body round o)
   registered_below (Some sync) may below round = sync_below sync (may sync refl) below round
-  registered_below None may below Round.BeforeCommit = tt
-  registered_below None may below Round.BeforeCompletion = tt
-  registered_below None may below Round.AfterCommit = tt
-  registered_below None may below Round.AfterCompletion = tt
+  registered_below None may below round = tt
 
   -- ---- listeners
 
@@ -215,7 +213,7 @@ module _ (S : Scenario) (valid : IsInOrder S) (k : ℕ) where
 
       heard : (i : ℕ) (listener : Listener) → slice_get S.listeners i ≡ Some listener → Heard (0 + i, listener)
       heard i listener there is =
-          let may = listener_may S listener (at_get (ListenerAllowed S) S.listeners i listener valid.callbacks.listeners there) in
+          let may = listener_may S listener (entry_of (ListenerAllowed S) S.listeners i listener valid.callbacks.listeners there) in
           let body = callbacks_below S k listener.body may
           (listener_below S k listener (λ l. l.event.0 == e.0) S.listeners i there is below) in
           let number : i ≡ 0 + i = omega arith in
@@ -227,7 +225,7 @@ module _ (S : Scenario) (valid : IsInOrder S) (k : ℕ) where
   statement_below (Stmt.Call m catch) below = below m (has_itself m [])
   statement_below (Stmt.This m catch) below = below m (has_itself m [])
   statement_below (Stmt.Register s) below =
-      registered_below S k (slice_get S.syncs s.0) (λ sync there. sync_may S sync (at_get (SyncAllowed S) S.syncs s.0 sync valid.callbacks.syncs there)) below
+      registered_below S k (slice_get S.syncs s.0) (λ sync there. sync_may S sync (entry_of (SyncAllowed S) S.syncs s.0 sync valid.callbacks.syncs there)) below
   statement_below (Stmt.Publish e) below = λ active live. deeds_below e active live below
   statement_below s below = tt
 
@@ -263,5 +261,5 @@ callable_if_valid S valid = record { methods = λ m. by_method m (slice_get S.me
     by_calls (Some calls) c there =
         subst (λ o. MethodsBelow S 65 (unwrap_or o [])) (sym there)
         (all_each (λ m. m.0 < length S.methods) (λ m. rank S m < 65) calls below_bound
-        (at_get (λ calls. All (λ m. m.0 < length S.methods) calls) S.clients c calls valid.range.clients there))
+        (entry_of (λ calls. All (λ m. m.0 < length S.methods) calls) S.clients c calls valid.range.clients there))
     by_calls None c there = subst (λ o. MethodsBelow S 65 (unwrap_or o [])) (sym there) tt

@@ -74,13 +74,7 @@ begins_push notes n fresh new = subst (IsDistinct ◌==◌) (sym (begun-push not
 
     by_note : (m : StoreNote) → ((t : ℕ) → m ≡ StoreNote.Begin t → contains (begun notes) t ≡ false) → IsDistinct ◌==◌ (begun notes ++ begun (m ∷ []))
     by_note (StoreNote.Begin t) h = distinct_push (begun notes) t fresh (h t refl)
-    by_note (StoreNote.Access t a r) h = same
-    by_note (StoreNote.Point t) h = same
-    by_note (StoreNote.BackTo t) h = same
-    by_note (StoreNote.Release t) h = same
-    by_note (StoreNote.Commit t k) h = same
-    by_note (StoreNote.Rollback t) h = same
-    by_note (StoreNote.Auto a r) h = same
+    by_note n h = same
 
 record BegunFresh (clients : ℕ) (facts : StoreFacts) (client : ℕ) (H : List StoreEntry) : Type 0 where
   legal : StoreLegal clients facts H

@@ -115,13 +115,7 @@ take_keeps next keeps (Note.Store n) st = tt
 access_keeps : (next : Answer → Meaning) → ((r : Answer) → Keeps (next r)) → (n : Note) → Keeps (on_access next n)
 access_keeps next keeps (Note.Store (StoreNote.Access t a r)) st = keeps r st
 access_keeps next keeps (Note.Store (StoreNote.Auto a r)) st = keeps r st
-access_keeps next keeps (Note.Store (StoreNote.Begin t)) st = tt
-access_keeps next keeps (Note.Store (StoreNote.Point t)) st = tt
-access_keeps next keeps (Note.Store (StoreNote.BackTo t)) st = tt
-access_keeps next keeps (Note.Store (StoreNote.Release t)) st = tt
-access_keeps next keeps (Note.Store (StoreNote.Commit t n)) st = tt
-access_keeps next keeps (Note.Store (StoreNote.Rollback t)) st = tt
-access_keeps next keeps (Note.Pool n) st = tt
+access_keeps next keeps n st = tt
 
 -- ---- statements
 

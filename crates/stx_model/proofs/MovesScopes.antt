@@ -30,7 +30,6 @@ use Rattle.stx_base.specs.Pools.{contains}
 use Rattle.stx_base.specs.Stores.{pointed, can_go_back, is_pointed}
 use Rattle.stx_base.specs.Valid.{SyncAllowed, is_new, allowed_around, allowed_in}
 use Rattle.stx_base.specs.Weight.{body_of, rank}
-use Rattle.stx_base.proofs.WeightLaws.{at_get}
 use Rattle.stx_model.specs.Brackets.{same_label}
 use Rattle.stx_model.specs.Contexts.{Context, Live, Registration, bare, is_active, is_live, ordered, registered, with_global_mark, marked_globally, without_syncs}
 use Rattle.stx_model.specs.Ending.{ending, has_before_commit, completion, completion_after}
@@ -47,6 +46,7 @@ use Rattle.stx_model.proofs.Moves.{World, noted, Sound, IsAlive, At, AtIn, Ends,
 use Rattle.stx_model.proofs.MovesPieces.{carried_ordered, none_active, plain, throws_go, caught_go, alive_at, row_go, marks_go, registers_go, inside, apart, suspends, resumes, left}
 use Rattle.stx_model.specs.Below.{listener_body}
 use Rattle.stx_model.proofs.Openings.{opening_tells}
+use Rattle.stx_base.proofs.ValidLaws.{entry_of}
 
 -- ---- what callbacks may hold where their transaction has ended
 
@@ -197,7 +197,7 @@ module _ (W : World) where
         (λ runs. listens_go L l (Some listener) (λ sound. elim (safe sound) [
           | inl alive ↦ inl alive
           | inr later ↦ inr (around S listener.phase round committed listener.body runs later
-              (at_get (λ l. All (λ s. allowed_in l.phase S s ≡ true) l.body) S.listeners l.0 listener sound.0.callbacks.listeners there))
+              (entry_of (λ l. All (λ s. allowed_in l.phase S s ≡ true) l.body) S.listeners l.0 listener sound.0.callbacks.listeners there))
         ]) st h)
         (λ _. h)
 
@@ -205,9 +205,9 @@ module _ (W : World) where
     unfolding callback
     sync_go L Round.BeforeCommit (Some sync) s there safe =
         callback_go L sync.before_commit (λ sound. elim (safe sound) [ inl alive ↦ inl alive | inr later ↦ absurd (false≢true (sym later)) ])
-    sync_go L Round.BeforeCompletion (Some sync) s there safe = callback_go L sync.before_completion (λ sound. inr (at_get (SyncAllowed S) S.syncs s sync sound.0.callbacks.syncs there).before_completion)
-    sync_go L Round.AfterCommit (Some sync) s there safe = callback_go L sync.after_commit (λ sound. inr (at_get (SyncAllowed S) S.syncs s sync sound.0.callbacks.syncs there).after_commit)
-    sync_go L Round.AfterCompletion (Some sync) s there safe = callback_go L sync.after_completion (λ sound. inr (at_get (SyncAllowed S) S.syncs s sync sound.0.callbacks.syncs there).after_completion)
+    sync_go L Round.BeforeCompletion (Some sync) s there safe = callback_go L sync.before_completion (λ sound. inr (entry_of (SyncAllowed S) S.syncs s sync sound.0.callbacks.syncs there).before_completion)
+    sync_go L Round.AfterCommit (Some sync) s there safe = callback_go L sync.after_commit (λ sound. inr (entry_of (SyncAllowed S) S.syncs s sync sound.0.callbacks.syncs there).after_commit)
+    sync_go L Round.AfterCompletion (Some sync) s there safe = callback_go L sync.after_completion (λ sound. inr (entry_of (SyncAllowed S) S.syncs s sync sound.0.callbacks.syncs there).after_completion)
     sync_go L round None s there safe = λ st h. h
 
     called_back_go : (L : Ledger) (round : Round) (committed : Bool) (label : Label) → RoundSafe L round → Keeps W L (called_back S calls round committed label)

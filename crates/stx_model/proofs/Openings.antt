@@ -57,12 +57,7 @@ opening_tells settings a context o is = subst (λ o. Tells o context) is (by con
 
     within : (live : Live) → context.tx ≡ Some live → (p : Propagation) → Tells (opening_within settings live p) context
     within live some Propagation.Nested = point_tells settings context live some
-    within live some Propagation.Required = tt
-    within live some Propagation.Supports = tt
-    within live some Propagation.Mandatory = tt
-    within live some Propagation.RequiresNew = tt
-    within live some Propagation.NotSupported = tt
-    within live some Propagation.Never = tt
+    within live some p = tt
 
     by : (tx : Option Live) → context.tx ≡ tx → Tells (opening_in settings a context tx) context
     by None none = without none a.propagation

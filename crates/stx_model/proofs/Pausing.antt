@@ -190,25 +190,12 @@ module _ (R : ℕ) where
 
   begin_follows : (n : ℕ) (next : ℕ → Meaning) (m : Note) (st : State) → IsCounted st → ((t : ℕ) → Follows n st (state_of (next t st))) → Follows n st (state_of (on_begin next m st))
   begin_follows n next (Note.Store (StoreNote.Begin t)) st counted then = then t
-  begin_follows n next (Note.Store (StoreNote.Access t a r)) st counted then = broken n st counted
-  begin_follows n next (Note.Store (StoreNote.Point t)) st counted then = broken n st counted
-  begin_follows n next (Note.Store (StoreNote.BackTo t)) st counted then = broken n st counted
-  begin_follows n next (Note.Store (StoreNote.Release t)) st counted then = broken n st counted
-  begin_follows n next (Note.Store (StoreNote.Commit t m)) st counted then = broken n st counted
-  begin_follows n next (Note.Store (StoreNote.Rollback t)) st counted then = broken n st counted
-  begin_follows n next (Note.Store (StoreNote.Auto a r)) st counted then = broken n st counted
-  begin_follows n next (Note.Pool m) st counted then = broken n st counted
+  begin_follows n next note st counted then = broken n st counted
 
   access_paces : (next : Answer → Meaning) → ((r : Answer) → Paces 0 (next r)) → (m : Note) → Paces 0 (on_access next m)
   access_paces next paces (Note.Store (StoreNote.Access t a r)) st counted = paces r st counted
   access_paces next paces (Note.Store (StoreNote.Auto a r)) st counted = paces r st counted
-  access_paces next paces (Note.Store (StoreNote.Begin t)) st counted = stays st counted
-  access_paces next paces (Note.Store (StoreNote.Point t)) st counted = stays st counted
-  access_paces next paces (Note.Store (StoreNote.BackTo t)) st counted = stays st counted
-  access_paces next paces (Note.Store (StoreNote.Release t)) st counted = stays st counted
-  access_paces next paces (Note.Store (StoreNote.Commit t m)) st counted = stays st counted
-  access_paces next paces (Note.Store (StoreNote.Rollback t)) st counted = stays st counted
-  access_paces next paces (Note.Pool m) st counted = stays st counted
+  access_paces next paces n st counted = stays st counted
 
   -- ---- statements
 

@@ -13,8 +13,8 @@ use Rattle.stx_base.specs.Histories.{store_notes}
 use Rattle.stx_base.specs.Stores.{ends, works, Transaction, committed_note, committed_by, journal, after_all, committed_rows}
 use Rattle.stx_base.specs.Serial.{Serial}
 use Rattle.stx_model.proofs.SerialAlone.{FindsAnswers}
-use Rattle.stx_model.proofs.SerialNames.{Sound, live-is, notes_with, notes_push}
-use Rattle.stx_model.proofs.SerialLocks.{work_same}
+use Rattle.stx_model.proofs.SerialNames.{Sound, live-is, notes_with}
+use Rattle.stx_base.proofs.HistoryLaws.{work_same, store_notes-push}
 
 -- ---- serial, by recursion over the journal
 
@@ -70,7 +70,7 @@ pub journal_push :
     → journal (history ++ e ∷ []) ≡ journal history ++ cons_option (joining history e) []
 journal_push history e sound =
     let old = all_committed_same (store_notes history) e.note history unended in
-    rw (notes_push history e, filter_map-append (committed_by (notes_with history e.note)) history (e ∷ []), old)
+    rw (store_notes-push history e, filter_map-append (committed_by (notes_with history e.note)) history (e ∷ []), old)
   where
     unended : (t : ℕ) → works t e.note ≡ true → list_any (ends t) (store_notes history) ≡ false
     unended t h = not-true _ (and_parts _ _ (rw (live-is (store_notes history) t) at (sound.live t (or_left _ _ h)))).0

@@ -14,9 +14,10 @@ use Rattle.stx_base.specs.Stores.{is_live, is_busy, conflicts, works, work, Tran
 use Rattle.stx_base.specs.Legal.{LegalFrom, StoreFits, StoreLegal}
 use Rattle.stx_model.specs.Laws.{JournalIsSerial}
 use Rattle.stx_model.proofs.SerialAlone.{FindsAnswers, reaches, writes, unmoved, alone_push}
-use Rattle.stx_model.proofs.SerialNames.{begins, Names, NamesFit, Sound, names_fit, names_push, notes_with, notes_push, no_names, sound}
-use Rattle.stx_model.proofs.SerialLocks.{Locked, work_more, work_same, no_work, begins_no_work, lived, lived_with_work, free_row, not_busy, access_reply, auto_reply, granted, locked_push, no_locks}
+use Rattle.stx_model.proofs.SerialNames.{begins, Names, NamesFit, Sound, names_fit, names_push, notes_with, no_names, sound}
+use Rattle.stx_model.proofs.SerialLocks.{Locked, no_work, begins_no_work, lived, lived_with_work, free_row, not_busy, access_reply, auto_reply, granted, locked_push, no_locks}
 use Rattle.stx_model.proofs.SerialJournal.{SerialFrom, serial_push, serial_from, joining, journal_push, rows_push}
+use Rattle.stx_base.proofs.HistoryLaws.{work_more, work_same, store_notes-push}
 
 -- what every prefix of a legal history has
 pub record Good (facts : StoreFacts) (history : List StoreEntry) : Type 0 where
@@ -150,9 +151,9 @@ good_push :
     → Good facts (history ++ e ∷ [])
 good_push clients facts history e good fits = record {
   names = names_push history e good.names named;
-  locked = rw (notes_push history e) (locked_push (store_notes history) e.note good.locked known (granted facts history e.note fits.reply));
+  locked = rw (store_notes-push history e) (locked_push (store_notes history) e.note good.locked known (granted facts history e.note fits.reply));
   serial = rw (journal_push history e known) (serial_joined facts history e.note (joining history e) joins good.serial);
-  alone = rw (rows_push facts history e known, notes_push history e) (λ t live.
+  alone = rw (rows_push facts history e known, store_notes-push history e) (λ t live.
       live_unmoved facts history e.note (joining history e) joins t live
       ∙ alone_so_far facts history e.note good known fits.reply t live);
 }

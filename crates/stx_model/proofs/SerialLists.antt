@@ -1,9 +1,9 @@
 -- Laws of tests on lists: whether some element passes, of a filtered, a mapped and a longer list.
-use Rattle.std.proofs.Common.{◌≡◌, ℕ, Bool, true, false, ◌&&◌, ◌||◌, ◌==◌, cond, List, [], ◌∷◌, ◌++◌, map, refl, ◌∙◌, ⊎_elim, arith, filter}
+use Rattle.std.proofs.Common.{◌≡◌, ℕ, Bool, true, false, ◌&&◌, ◌||◌, cond, List, [], ◌∷◌, map, refl, ◌∙◌, ⊎_elim, arith, filter}
 use Rattle.std.specs.List.{list_any}
 use Rattle.std.proofs.lemmas.Bool.{or_cases, or_left, or_right}
-use Rattle.std.proofs.lemmas.List.Folds.{list_any-append}
 use Rattle.stx_base.specs.Pools.{contains}
+use Rattle.stx_base.proofs.HistoryLaws.{contains-filter as contains_filtered}
 
 pub any-filter : {X : Type 0} (p q : X → Bool) (xs : List X) → list_any q (filter p xs) ≡ list_any (λ x. p x && q x) xs
 any-filter p q [] = refl
@@ -29,19 +29,5 @@ any_since p q since [] h = h
 any_since p q since (x ∷ xs) h =
     ⊎_elim (λ here. or_left _ _ (since x here)) (λ later. or_right _ _ (any_since p q since xs later)) (or_cases _ _ h)
 
-pub any_push : {X : Type 0} (p : X → Bool) (xs : List X) (x : X) → list_any p (xs ++ x ∷ []) ≡ (list_any p xs || p x)
-any_push p xs x = list_any-append p xs (x ∷ []) ∙ grind arith
-
 pub contains-filter : (p : ℕ → Bool) (xs : List ℕ) (t : ℕ) → contains (filter p xs) t ≡ (p t && contains xs t)
-contains-filter p xs t = any-filter p (λ m. m == t) xs ∙ any-same _ (λ m. p t && (m == t)) same xs ∙ taken_out (p t)
-  where
-    same : (m : ℕ) → (p m && (m == t)) ≡ (p t && (m == t))
-    same m = grind arith
-
-    taken_out : (b : Bool) → list_any (λ m. b && (m == t)) xs ≡ (b && contains xs t)
-    taken_out true = refl
-    taken_out false = none xs
-      where
-        none : (ys : List ℕ) → list_any (λ m. false) ys ≡ false
-        none [] = refl
-        none (y ∷ ys) = none ys
+contains-filter p xs t = contains_filtered p xs t ∙ grind arith

@@ -1,8 +1,7 @@
 -- Locks in a legal history: a row that a live transaction has written no other live transaction has reached.
-use Rattle.std.proofs.Common.{◌≡◌, ℕ, Bool, true, false, not, ◌&&◌, ◌||◌, ◌==◌, cond, List, [], ◌∷◌, ◌++◌, Option, Some, refl, sym, ap, ◌∙◌, ⊎_elim, inl, inr, ◌⊎◌, arith, eqb-true, append-nil}
+use Rattle.std.proofs.Common.{◌≡◌, ℕ, Bool, true, false, not, ◌&&◌, ◌||◌, ◌==◌, cond, List, [], ◌∷◌, ◌++◌, Option, Some, refl, sym, ap, ◌∙◌, ⊎_elim, inl, inr, ◌⊎◌, arith, eqb-true}
 use Rattle.std.specs.List.{list_any}
 use Rattle.std.proofs.lemmas.Bool.{or_cases, or_parts, and_parts, and_from, not-true, not_from_false, false≢true, true≢false}
-use Rattle.std.proofs.lemmas.List.Elements.{filter-append}
 use Rattle.stx_base.specs.declared.facts.StoreFacts.{StoreFacts}
 use Rattle.stx_base.specs.declared.history.Access.{Access}
 use Rattle.stx_base.specs.declared.history.Answer.{Answer}
@@ -12,17 +11,12 @@ use Rattle.stx_base.specs.Alone.{row_of}
 use Rattle.stx_base.specs.Histories.{store_notes}
 use Rattle.stx_base.specs.Pools.{contains}
 use Rattle.stx_base.specs.Stores.{ends, live, is_live, is_busy, takes, holders, is_caller, conflicts, smallest, works, work, busy_or, access_answer, auto_answer, store_reply, store_want}
-use Rattle.stx_model.proofs.SerialLists.{any-filter, any-same, any_push, any_since, contains-filter}
+use Rattle.stx_model.proofs.SerialLists.{any-filter, any-same, any_since, contains-filter}
 use Rattle.stx_model.proofs.SerialAlone.{reaches, writes, reaches-since_writes}
 use Rattle.stx_model.proofs.SerialNames.{begins, names, Sound, live-is}
+use Rattle.stx_base.proofs.HistoryLaws.{list_any-push, work_same}
 
--- ---- the work of a transaction after one more note
-
-pub work_more : (notes : List StoreNote) (n : StoreNote) (t : ℕ) → works t n ≡ true → work (notes ++ n ∷ []) t ≡ work notes t ++ n ∷ []
-work_more notes n t h = filter-append (works t) notes (n ∷ []) ∙ ap (λ b. work notes t ++ cond b (n ∷ []) []) h
-
-pub work_same : (notes : List StoreNote) (n : StoreNote) (t : ℕ) → works t n ≡ false → work (notes ++ n ∷ []) t ≡ work notes t
-work_same notes n t h = filter-append (works t) notes (n ∷ []) ∙ ap (λ b. work notes t ++ cond b (n ∷ []) []) h ∙ append-nil (work notes t)
+-- ---- the work of a transaction
 
 -- a transaction that nobody has named has no work
 pub no_work : (notes : List StoreNote) (t : ℕ) → list_any (names t) notes ≡ false → work notes t ≡ []
@@ -39,7 +33,7 @@ any_work_push :
     (p : StoreNote → Bool) (notes : List StoreNote) (n : StoreNote) (t : ℕ)
     → list_any p (work (notes ++ n ∷ []) t) ≡ (list_any p (work notes t) || (works t n && p n))
 any_work_push p notes n t =
-    any-filter (works t) p (notes ++ n ∷ []) ∙ any_push (λ m. works t m && p m) notes n
+    any-filter (works t) p (notes ++ n ∷ []) ∙ list_any-push (λ m. works t m && p m) notes n
     ∙ ap (λ b. b || (works t n && p n)) (sym (any-filter (works t) p notes))
 
 -- what lives after a note lived before and isn't ended by it, or is begun by it
@@ -47,7 +41,7 @@ pub lived :
     (notes : List StoreNote) (n : StoreNote) (t : ℕ) → is_live (notes ++ n ∷ []) t ≡ true
     → ((is_live notes t ≡ true) × (ends t n ≡ false)) ⊎ (begins t n ≡ true)
 lived notes n t h =
-    let parts = and_parts _ _ (rw (live-is (notes ++ n ∷ []) t, any_push (ends t) notes n, any_push (begins t) notes n) at h) in
+    let parts = and_parts _ _ (rw (live-is (notes ++ n ∷ []) t, list_any-push (ends t) notes n, list_any-push (begins t) notes n) at h) in
     let unended = or_parts _ _ (not-true _ parts.0) in
     ⊎_elim (λ old. inl (rw (live-is notes t) (and_from _ _ (not_from_false _ unended.0) old), unended.1)) (λ new. inr new) (or_cases _ _ parts.1)
 

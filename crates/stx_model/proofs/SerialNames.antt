@@ -2,7 +2,6 @@
 use Rattle.std.proofs.Common.{◌≡◌, ℕ, ◌+◌, ◌≤◌, Bool, true, false, not, ◌&&◌, ◌||◌, ◌==◌, List, [], ◌∷◌, ◌++◌, Option, Some, length, refl, sym, ◌∙◌, ⊎_elim, inl, inr, arith, eq-eqb, eqb-true, filter, length-append, ◌⊎◌, le_trans}
 use Rattle.std.specs.List.{list_any}
 use Rattle.std.proofs.lemmas.Bool.{or_cases, or_left, or_right, and_parts, and_from, not-true, not_from_false, both_ways, false≢true, true≢false, false_from_ne_true}
-use Rattle.std.proofs.lemmas.List.{map_push}
 use Rattle.std.proofs.lemmas.List.Elements.{filter_map-append}
 use Rattle.stx_base.specs.declared.facts.StoreFacts.{StoreFacts}
 use Rattle.stx_base.specs.declared.history.StoreNote.{StoreNote}
@@ -11,7 +10,8 @@ use Rattle.stx_base.specs.Histories.{store_notes, store_notes_of}
 use Rattle.stx_base.specs.Pools.{contains}
 use Rattle.stx_base.specs.Stores.{begun_by, begun, ends, is_live, works, store_reply, store_want, store_proper}
 use Rattle.stx_base.specs.Legal.{StoreFits}
-use Rattle.stx_model.proofs.SerialLists.{any-filter, any-map, any_push, any_since, contains-filter}
+use Rattle.stx_model.proofs.SerialLists.{any-filter, any-map, any_since, contains-filter}
+use Rattle.stx_base.proofs.HistoryLaws.{list_any-push, store_notes-push}
 
 -- ---- the clients' notes together are the history's
 
@@ -34,14 +34,11 @@ pub of_client_push :
     (p : StoreNote → Bool) (history : List StoreEntry) (e : StoreEntry) (c : ℕ)
     → list_any p (store_notes_of (history ++ e ∷ []) c) ≡ (list_any p (store_notes_of history c) || ((e.client == c) && p e.note))
 of_client_push p history e c =
-    rw (any-of_client p (history ++ e ∷ []) c, any-of_client p history c) (any_push (λ e. (e.client == c) && p e.note) history e)
+    rw (any-of_client p (history ++ e ∷ []) c, any-of_client p history c) (list_any-push (λ e. (e.client == c) && p e.note) history e)
 
 -- the notes of a history, and one more
 abbrev pub notes_with : List StoreEntry → StoreNote → List StoreNote
 notes_with history n = store_notes history ++ n ∷ []
-
-pub notes_push : (history : List StoreEntry) (e : StoreEntry) → store_notes (history ++ e ∷ []) ≡ notes_with history e.note
-notes_push history e = map_push (λ e. e.note) history e
 
 -- what a client's note passes a note of the history passes, and the other way round
 pub of_some_client :
@@ -164,10 +161,10 @@ pub names_push : (history : List StoreEntry) (e : StoreEntry) → Names history 
 names_push history e known fits = record { below = below; owned = owned; named = named }
   where
     below : (t : ℕ) → list_any (begins t) (store_notes (history ++ e ∷ [])) ≡ true → t ≤ length (begun (store_notes (history ++ e ∷ [])))
-    below t h = rw (notes_push history e) (⊎_elim
+    below t h = rw (store_notes-push history e) (⊎_elim
         (λ old. le_trans (known.below t old) (begun_longer (store_notes history) e.note))
         (λ new. let fresh = fits.fresh t new in let more = begun_one_more (store_notes history) e.note t new in omega arith)
-        (or_cases _ _ (rw (notes_push history e, any_push (begins t) (store_notes history) e.note) at h)))
+        (or_cases _ _ (rw (store_notes-push history e, list_any-push (begins t) (store_notes history) e.note) at h)))
 
     -- the transaction that the entry begins was begun by nobody before
     first : (t c : ℕ) → begins t e.note ≡ true → list_any (begins t) (store_notes_of history c) ≡ true → ⊥

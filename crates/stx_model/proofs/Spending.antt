@@ -134,22 +134,9 @@ module _ (M : Measure) where
 
   pub begin_costs : (o : Owed) (k : ℕ) (next : ℕ → Meaning) → ((t : ℕ) → Costs o k (next t)) → (n : Note) → Costs o k (on_begin next n)
   begin_costs o k next costs (Note.Store (StoreNote.Begin t)) st = costs t st
-  begin_costs o k next costs (Note.Store (StoreNote.Access t a r)) st = broken o k st
-  begin_costs o k next costs (Note.Store (StoreNote.Point t)) st = broken o k st
-  begin_costs o k next costs (Note.Store (StoreNote.BackTo t)) st = broken o k st
-  begin_costs o k next costs (Note.Store (StoreNote.Release t)) st = broken o k st
-  begin_costs o k next costs (Note.Store (StoreNote.Commit t n)) st = broken o k st
-  begin_costs o k next costs (Note.Store (StoreNote.Rollback t)) st = broken o k st
-  begin_costs o k next costs (Note.Store (StoreNote.Auto a r)) st = broken o k st
-  begin_costs o k next costs (Note.Pool n) st = broken o k st
+  begin_costs o k next costs n st = broken o k st
 
   pub access_costs : (o : Owed) (k : ℕ) (next : Answer → Meaning) → ((r : Answer) → Costs o k (next r)) → (n : Note) → Costs o k (on_access next n)
   access_costs o k next costs (Note.Store (StoreNote.Access t a r)) st = costs r st
   access_costs o k next costs (Note.Store (StoreNote.Auto a r)) st = costs r st
-  access_costs o k next costs (Note.Store (StoreNote.Begin t)) st = broken o k st
-  access_costs o k next costs (Note.Store (StoreNote.Point t)) st = broken o k st
-  access_costs o k next costs (Note.Store (StoreNote.BackTo t)) st = broken o k st
-  access_costs o k next costs (Note.Store (StoreNote.Release t)) st = broken o k st
-  access_costs o k next costs (Note.Store (StoreNote.Commit t n)) st = broken o k st
-  access_costs o k next costs (Note.Store (StoreNote.Rollback t)) st = broken o k st
-  access_costs o k next costs (Note.Pool n) st = broken o k st
+  access_costs o k next costs n st = broken o k st

@@ -118,13 +118,7 @@ module _ (S : Scenario) (client : ClientView) (c : ℕ) (pool : Pool) (store : S
 
   replied_store : (call : StoreCall) → replied S so_far c (Some (store_call_want call)) ≡ with_store so_far c (store_reply (store_facts S) store.entries (store_call_want call))
   replied_store StoreCall.Begin = refl
-  replied_store (StoreCall.Access t a) = refl
-  replied_store (StoreCall.Point t) = refl
-  replied_store (StoreCall.BackTo t) = refl
-  replied_store (StoreCall.Release t) = refl
-  replied_store (StoreCall.Commit t) = refl
-  replied_store (StoreCall.Rollback t) = refl
-  replied_store (StoreCall.Auto a) = refl
+  replied_store call = refl
 
   pub after_call : (call : Call) (reply : Reply) (new_pool : Pool) (new_store : Store) (new : ClientView) → stop_of (script_of client) ≡ Some (call_want call)
       → IsCallAnswered pool store new_pool new_store c call reply → new ≡ fed (calling client (call_want call)) reply → HasReadAll new → HasTurned S c pool store new_pool new_store new

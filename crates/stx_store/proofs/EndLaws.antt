@@ -6,6 +6,7 @@ use Rattle.std.specs.FinMap.{get, empty, get-empty}
 use Rattle.std.specs.Ordering.{nat_cmp, int_eq}
 use Rattle.std.specs.Cmp.{unsigned_tied}
 use Rattle.std.proofs.lemmas.Bool.{false≢true, cases_eq}
+use Rattle.std.proofs.Math.Bool.{and-false}
 use Rattle.stx_scenario.specs.declared.numbers.RowNo.{RowNo}
 use Rattle.stx_base.specs.declared.facts.StoreFacts.{StoreFacts}
 use Rattle.stx_base.specs.declared.history.Access.{Access}
@@ -15,7 +16,7 @@ use Rattle.stx_base.specs.declared.history.StoreEntry.{StoreEntry}
 use Rattle.stx_base.specs.Alone.{RowMap, row_of, after, net, without_innermost}
 use Rattle.stx_base.specs.Histories.{store_notes}
 use Rattle.stx_base.specs.Stores.{is_live, is_busy, pointed, savepoints, work, with_return, can_go_back, is_pointed, committed_rows, after_all, Transaction}
-use Rattle.stx_base.proofs.HistoryLaws.{savepoints-push, or-false}
+use Rattle.stx_base.proofs.HistoryLaws.{savepoints-push, or-false, work_same}
 use Rattle.stx_journal.proofs.RowChanges.{change_to, net_is, net-same, unchanged}
 use Rattle.stx_locks.specs.Locks.{LockMap, unless_held_by}
 use Rattle.stx_rows.specs.Rows.{RowsView, change_to as row_change, dropped, emptied, put_back_last, put_back_all, stack_of, some_stack, HasStack, SameValues}
@@ -23,10 +24,10 @@ use Rattle.stx_rows.proofs.RowsLaws.{or_else, moved-at, put_back-map}
 use Rattle.stx_store.specs.inner.Cells.{cell_applied, cell_stepped, cell_worked}
 use Rattle.stx_store.specs.inner.Keeping.{held_by, OlderStack, nones, unrolled, Mirrors, Keeps, KeepsRows, stack_at, changes_of}
 use Rattle.stx_store.proofs.CellLaws.{after-at}
-use Rattle.stx_store.proofs.KeepLaws.{mirrors-point, mirrors-back, mirrors-release, untaken, live_same, work_same, any_takes-same, length_returned, free_untaken, keeps-same, keeps-worked, keeps-ended, keeps-auto}
+use Rattle.stx_store.proofs.KeepLaws.{head_of, tail_of, mirrors-point, mirrors-back, mirrors-release, untaken, live_same, any_takes-same, length_returned, free_untaken, keeps-same, keeps-worked, keeps-ended, keeps-auto}
 use Rattle.stx_store.proofs.JournalLaws.{WorksLive, commits, committed_rows-push}
 use Rattle.stx_store.proofs.OwedLaws.{entry}
-use Rattle.stx_store.proofs.StateLaws.{stack-other, stack-mine, Tall, tall, Taller, taller, undone, undone-at, undone-nones, undone-mirrors, elsewhere, names_one, base_same, with_entry, head_of, tail_of}
+use Rattle.stx_store.proofs.StateLaws.{stack-other, stack-mine, Tall, tall, Taller, taller, undone, undone-at, undone-nones, undone-mirrors, elsewhere, names_one, base_same, with_entry}
 
 -- an open savepoint
 record Opened (ps : List Bool) : Type 0 where
@@ -253,15 +254,11 @@ module _ (facts : StoreFacts) (H : List StoreEntry) (locks : LockMap) (rows : Ro
       with_entry facts H locks rows keeps (entry c n) locks rows
       (keeps-same notes base (λ k. get locks k) (λ k. get rows.values k) (stack_at rows) keeps (notes ++ n ∷ []) _
       (λ u. live_same notes n u refl refl) (λ u k. any_takes-same notes n u k (ap (λ b. (t == u) && (row_of a == k) && not b) busy ∙ and_busy (t == u) (row_of a == k)))
-      (λ u. savepoints-push notes n u) (λ u. work_same notes n u (ap (λ b. (t == u) && not b) busy ∙ and_no (t == u)))
+      (λ u. savepoints-push notes n u) (λ u. work_same notes n u (ap (λ b. (t == u) && not b) busy ∙ and-false (t == u)))
       (base_same facts H locks rows keeps (entry c n) apart refl))
     where
       n : StoreNote
       n = StoreNote.Access t a r
-
-      and_no : (b : Bool) → (b && false) ≡ false
-      and_no true = refl
-      and_no false = refl
 
   pub commits-none : (c : ℕ) (a : Access) (r : Answer) → is_busy r ≡ true → commits H (entry c (StoreNote.Auto a r)) ≡ []
   commits-none c a r busy = by_answer (is_busy r) busy

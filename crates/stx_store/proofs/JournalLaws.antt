@@ -13,10 +13,10 @@ use Rattle.stx_base.specs.Histories.{store_notes, store_notes_of}
 use Rattle.stx_base.specs.Pools.{contains}
 use Rattle.stx_base.specs.Stores.{begun, ends, is_live, works, Transaction, committed_note, committed_by, journal, after_all, committed_rows}
 use Rattle.stx_base.specs.Legal.{StoreFits}
-use Rattle.stx_base.proofs.HistoryLaws.{store_notes-push, is_live-parts}
+use Rattle.stx_base.proofs.HistoryLaws.{store_notes-push, is_live-parts, work_same}
 use Rattle.stx_base.proofs.StoreLaws.{names, lives}
 use Rattle.stx_journal.specs.Journal.{committed_as, committed_from, committed_in}
-use Rattle.stx_store.proofs.KeepLaws.{work_same, works_other}
+use Rattle.stx_store.proofs.KeepLaws.{works_other}
 use Rattle.stx_store.proofs.OwnLaws.{Owns}
 
 -- a note that works for no transaction that has ended leaves what was committed
@@ -39,13 +39,7 @@ commits H e = cons_option (committed_note (store_notes H) e.client e.note) []
 
 own_commit : (notes : List StoreNote) (c : ℕ) (m : StoreNote) → committed_note (notes ++ m ∷ []) c m ≡ committed_note notes c m
 own_commit notes c (StoreNote.Commit t k) = ap (λ w. Some (record { client = c; tx = Some t; work = w })) (work_same notes (StoreNote.Commit t k) t refl)
-own_commit notes c (StoreNote.Auto a r) = refl
-own_commit notes c (StoreNote.Begin t) = refl
-own_commit notes c (StoreNote.Access t a r) = refl
-own_commit notes c (StoreNote.Point t) = refl
-own_commit notes c (StoreNote.BackTo t) = refl
-own_commit notes c (StoreNote.Release t) = refl
-own_commit notes c (StoreNote.Rollback t) = refl
+own_commit notes c n = refl
 
 pub journal-push : (H : List StoreEntry) (e : StoreEntry) → WorksLive (store_notes H) e.note → journal (H ++ e ∷ []) ≡ journal H ++ commits H e
 journal-push H e apart =

@@ -1,17 +1,16 @@
 -- What is kept stays right with each note.
-use Rattle.std.proofs.Common.{◌≡◌, ◌≢◌, ℕ, ℤ, suc, Bool, true, false, not, ◌&&◌, ◌||◌, ◌==◌, cond, List, [], ◌∷◌, ◌++◌, Option, Some, None, length, fold, refl, sym, ap, ◌∙◌, subst, append-nil, inl, inr, arith, eq-eqb, ne_eqb, eqb-true}
+use Rattle.std.proofs.Common.{◌≡◌, ◌≢◌, ℕ, ℤ, suc, Bool, true, false, not, ◌&&◌, ◌||◌, ◌==◌, cond, List, [], ◌∷◌, ◌++◌, Option, Some, None, length, fold, refl, sym, ap, ◌∙◌, subst, inl, inr, arith, eq-eqb, ne_eqb, eqb-true}
 use Rattle.std.proofs.Math.Bool.{or-true, and-false}
 use Rattle.std.specs.List.{list_any}
 use Rattle.std.specs.Option.{unwrap_or}
 use Rattle.std.proofs.lemmas.Bool.{false≢true, cases_eq}
-use Rattle.std.proofs.lemmas.List.Elements.{filter-append}
 use Rattle.std.proofs.lemmas.List.Sums.{fold-append}
 use Rattle.stx_base.specs.declared.history.Access.{Access}
 use Rattle.stx_base.specs.declared.history.StoreNote.{StoreNote}
 use Rattle.stx_base.specs.Alone.{innermost, without_innermost, row_of}
 use Rattle.stx_base.specs.Stores.{begun, ends, is_live, is_busy, takes, pointed, savepoints, works, work, with_return}
-use Rattle.stx_base.proofs.HistoryLaws.{or-false, or_none, list_any-push, is_live-parts, is_live-push, savepoints-push}
-use Rattle.stx_base.proofs.StoreLaws.{names, is_live_none, savepoints_none, is_live-push_other, savepoints-push_other}
+use Rattle.stx_base.proofs.HistoryLaws.{or-false, or_none, list_any-push, is_live-push, savepoints-push, work_more, work_same}
+use Rattle.stx_base.proofs.StoreLaws.{names, is_live_none, savepoints_none, is_live-push_other, savepoints-push_other, is_live-push_kept}
 use Rattle.std.proofs.lemmas.Cmp.{nat_eq_equiv}
 use Rattle.stx_base.specs.Pools.{contains}
 use Rattle.stx_locks.specs.Locks.{unless_held_by}
@@ -20,12 +19,6 @@ use Rattle.stx_store.specs.inner.Cells.{Cell, cell_applied, cell_stepped, cell_w
 use Rattle.stx_store.specs.inner.Keeping.{held_by, OlderStack, nones, unrolled, Mirrors, Keeps}
 
 -- ---- the work of a transaction and a note more
-
-pub work_more : (notes : List StoreNote) (n : StoreNote) (t : ℕ) → works t n ≡ true → work (notes ++ n ∷ []) t ≡ work notes t ++ n ∷ []
-work_more notes n t h = filter-append (works t) notes (n ∷ []) ∙ ap (λ b. work notes t ++ cond b (n ∷ []) []) h
-
-pub work_same : (notes : List StoreNote) (n : StoreNote) (t : ℕ) → works t n ≡ false → work (notes ++ n ∷ []) t ≡ work notes t
-work_same notes n t h = filter-append (works t) notes (n ∷ []) ∙ ap (λ b. work notes t ++ cond b (n ∷ []) []) h ∙ append-nil (work notes t)
 
 pub cell_more : (notes : List StoreNote) (n : StoreNote) (t k : ℕ) (base : Option ℤ) → works t n ≡ true → cell_worked k base (work (notes ++ n ∷ []) t) ≡ cell_stepped k (cell_worked k base (work notes t)) n
 cell_more notes n t k base h = ap (cell_worked k base) (work_more notes n t h) ∙ fold-append (cell_stepped k) (record { value = base; copies = [] }) (work notes t) (n ∷ [])
@@ -53,13 +46,7 @@ any_takes-none (n ∷ notes) t k h =
 
 -- a note that neither begins nor ends a transaction lets it live
 pub live_same : (notes : List StoreNote) (n : StoreNote) (t : ℕ) → begun (n ∷ []) ≡ [] → ends t n ≡ false → is_live (notes ++ n ∷ []) t ≡ is_live notes t
-live_same own n t none still =
-    is_live-push own n t
-    ∙ ap (λ us. (contains (begun own) t || contains us t) && not (list_any (ends t) own || ends t n)) none
-    ∙ ap (λ b. b && not (list_any (ends t) own || ends t n)) (or-false (contains (begun own) t))
-    ∙ ap (λ b. contains (begun own) t && not (list_any (ends t) own || b)) still
-    ∙ ap (λ b. contains (begun own) t && not b) (or-false (list_any (ends t) own))
-    ∙ sym (is_live-parts own t)
+live_same own n t none still = is_live-push_kept own n t (ap (λ us. contains us t) none) still
 
 pub dead : (own : List StoreNote) (n : StoreNote) (t : ℕ) → ends t n ≡ true → is_live (own ++ n ∷ []) t ≡ false
 dead own n t end =
@@ -82,11 +69,11 @@ length_returned (p ∷ ps) = refl
 
 -- ---- a row that the transaction hasn't taken
 
-cons_head : {A : Type 0} (x y : A) (xs ys : List A) → ◌≡◌ {A = List A} (x ∷ xs) (y ∷ ys) → x ≡ y
-cons_head x y xs ys e = cc
+pub head_of : {A : Type 0} {x y : A} {xs ys : List A} → ◌≡◌ {A = List A} (x ∷ xs) (y ∷ ys) → x ≡ y
+head_of e = cc
 
-cons_tail : {A : Type 0} (x y : A) (xs ys : List A) → ◌≡◌ {A = List A} (x ∷ xs) (y ∷ ys) → xs ≡ ys
-cons_tail x y xs ys e = cc
+pub tail_of : {A : Type 0} {x y : A} {xs ys : List A} → ◌≡◌ {A = List A} (x ∷ xs) (y ∷ ys) → xs ≡ ys
+tail_of e = cc
 
 abbrev cell : Option ℤ → List (Option ℤ) → Cell
 cell value copies = record { value = value; copies = copies }
@@ -103,14 +90,14 @@ mirrors-back v b h g s c m = by_copies c.copies m.older
   where
     by_copies : (copies : List (Option ℤ)) → unrolled v (h ∷ g ∷ s) ≡ copies ++ b ∷ [] → Mirrors (unwrap_or h v) b (None ∷ g ∷ s) (cell (innermost c.value copies) copies)
     by_copies [] older = absurd (omega (arith, ap length older))
-    by_copies (copy ∷ copies) older = record { now = cons_head _ _ _ _ older; older = older }
+    by_copies (copy ∷ copies) older = record { now = head_of older; older = older }
 
 pub mirrors-release : (v b : Option ℤ) (h g : Option (Option ℤ)) (s : OlderStack) (c : Cell) → Mirrors v b (h ∷ g ∷ s) c → Mirrors v b (or_else g h ∷ s) (cell c.value (without_innermost c.copies))
 mirrors-release v b h g s c m = by_copies c.copies m.older
   where
     by_copies : (copies : List (Option ℤ)) → unrolled v (h ∷ g ∷ s) ≡ copies ++ b ∷ [] → Mirrors v b (or_else g h ∷ s) (cell c.value (without_innermost copies))
     by_copies [] older = absurd (omega (arith, ap length older))
-    by_copies (copy ∷ copies) older = record { now = m.now; older = ap (λ x. x ∷ unrolled x s) (unwrap-both g h v) ∙ cons_tail _ _ _ _ older }
+    by_copies (copy ∷ copies) older = record { now = m.now; older = ap (λ x. x ∷ unrolled x s) (unwrap-both g h v) ∙ tail_of older }
 
 -- ---- a row that the transaction hasn't taken
 
@@ -131,7 +118,7 @@ fresh_back b n c m = by_copies c.copies m.older
   where
     by_copies : (copies : List (Option ℤ)) → unrolled b (nones (suc n)) ≡ copies ++ b ∷ [] → Fresh b n (cell (innermost c.value copies) copies)
     by_copies [] older = record { now = m.now; older = older }
-    by_copies (copy ∷ copies) older = record { now = cons_head _ _ _ _ older; older = older }
+    by_copies (copy ∷ copies) older = record { now = head_of older; older = older }
 
 fresh_release : (b : Option ℤ) (ps : List Bool) (c : Cell) → Fresh b (length ps) c → Fresh b (length (without_innermost ps)) (cell c.value (without_innermost c.copies))
 fresh_release b ps c m = by_copies ps c.copies m.older
@@ -141,7 +128,7 @@ fresh_release b ps c m = by_copies ps c.copies m.older
     by_copies [] (copy ∷ []) older = absurd (omega (arith, ap length older))
     by_copies [] (copy ∷ more ∷ copies) older = absurd (omega (arith, ap length older))
     by_copies (p ∷ ps) [] older = absurd (omega (arith, ap length older))
-    by_copies (p ∷ ps) (copy ∷ copies) older = record { now = m.now; older = cons_tail _ _ _ _ older }
+    by_copies (p ∷ ps) (copy ∷ copies) older = record { now = m.now; older = tail_of older }
 
 fresh_step : (t k : ℕ) (b : Option ℤ) (ps : List Bool) (c : Cell) (n : StoreNote) → takes t k n ≡ false → Fresh b (length ps) c → Fresh b (length (pointed t ps n)) (worked_one t k c n)
 fresh_step t k b ps c (StoreNote.Access u a r) free m = by_test (u == t) (row_of a == k) refl (is_busy r) free

@@ -2,7 +2,7 @@
 use Rattle.std.proofs.Common.{◌≡◌, ℕ, Bool, true, false, not, ◌&&◌, ◌||◌, ◌==◌, cond, min, List, [], ◌∷◌, Option, Some, None, fold, refl, sym, ap, ◌∙◌, arith, eq-eqb, eqb-true}
 use Rattle.std.specs.List.{list_any}
 use Rattle.std.specs.FinMap.{get}
-use Rattle.std.proofs.lemmas.Bool.{false≢true}
+use Rattle.std.proofs.lemmas.Bool.{false≢true, or_right, and_parts}
 use Rattle.stx_base.specs.declared.facts.StoreFacts.{StoreFacts}
 use Rattle.stx_base.specs.declared.history.Access.{Access}
 use Rattle.stx_base.specs.declared.history.Answer.{Answer}
@@ -35,30 +35,18 @@ fold-same h [] only = refl
 fold-same h (x ∷ xs) only =
     let same : x ≡ h = only x (ap (λ b. b || contains xs x) (eq-eqb x x refl)) in
     ap (λ n. fold min n xs) (ap (min h) same ∙ min_same h) ∙ fold-same h xs (λ u there. only u (or_right (x == u) (contains xs u) there))
-  where
-    or_right : (a b : Bool) → b ≡ true → (a || b) ≡ true
-    or_right true b h = refl
-    or_right false b h = h
 
 smallest-one : (xs : List ℕ) (h : ℕ) → contains xs h ≡ true → ((u : ℕ) → contains xs u ≡ true → u ≡ h) → Some h ≡ smallest xs
 smallest-one [] h there only = absurd (false≢true there)
 smallest-one (x ∷ xs) h there only =
     let same : x ≡ h = only x (ap (λ b. b || contains xs x) (eq-eqb x x refl)) in
     ap Some (sym (ap (λ n. fold min n xs) same ∙ fold-same h xs (λ u in_rest. only u (or_right (x == u) (contains xs u) in_rest))))
-  where
-    or_right : (a b : Bool) → b ≡ true → (a || b) ≡ true
-    or_right true b h = refl
-    or_right false b h = h
 
 module _ (facts : StoreFacts) (H : List StoreEntry) (locks : LockMap) (rows : RowsView) (keeps : KeepsRows facts H locks rows) where
   in_the_way : (caller : Option ℕ) (a : Access) (u : ℕ) → contains (conflicts facts (store_notes H) caller a) u ≡ (held_by (get locks (row_of a)) u && not (is_caller caller u))
   in_the_way caller a u =
       contains-filter (λ t. not (is_caller caller t)) (holders (store_notes H) (row_of a)) u
       ∙ ap (λ b. b && not (is_caller caller u)) (contains-filter (λ t. list_any (takes t (row_of a)) (store_notes H)) (live (store_notes H)) u ∙ keeps.locked (row_of a) u)
-
-  and_left : (a b : Bool) → (a && b) ≡ true → a ≡ true
-  and_left true b h = refl
-  and_left false b h = absurd (false≢true h)
 
   -- a free row, or one's own: nobody is in the way
   way_free : (caller : Option ℕ) (a : Access) → ((u : ℕ) → held_by (get locks (row_of a)) u ≡ true → is_caller caller u ≡ true) → None ≡ smallest (conflicts facts (store_notes H) caller a)
@@ -74,7 +62,7 @@ module _ (facts : StoreFacts) (H : List StoreEntry) (locks : LockMap) (rows : Ro
   way_held caller a h is other =
       smallest-one (conflicts facts (store_notes H) caller a) h
       (in_the_way caller a h ∙ (λ i. held_by (is i) h && not (other i)) ∙ ap (λ b. b && true) (eq-eqb h h refl))
-      (λ u there. sym (eqb-true h u (sym (ap (λ o. held_by o u) is) ∙ and_left (held_by (get locks (row_of a)) u) (not (is_caller caller u)) (sym (in_the_way caller a u) ∙ there))))
+      (λ u there. sym (eqb-true h u (sym (ap (λ o. held_by o u) is) ∙ (and_parts (held_by (get locks (row_of a)) u) (not (is_caller caller u)) (sym (in_the_way caller a u) ∙ there)).0)))
 
   own_granted : (o : Option ℕ) (t : ℕ) → asked o t ≡ Ask.Granted → IsGranted o t
   own_granted None t is u h = absurd (false≢true h)

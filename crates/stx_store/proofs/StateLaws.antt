@@ -21,15 +21,9 @@ use Rattle.stx_rows.specs.Rows.{OlderMap, RowsView, put_back, put_back_all, some
 use Rattle.stx_rows.proofs.RowsLaws.{or_else, kept-at, put_back-map}
 use Rattle.stx_store.specs.inner.Cells.{Cell, cell_applied, cell_stepped, cell_worked}
 use Rattle.stx_store.specs.inner.Keeping.{held_by, OlderStack, nones, unrolled, Mirrors, Keeps, KeepsRows, stack_at, kept_for, IsMade}
-use Rattle.stx_store.proofs.KeepLaws.{mirrors-write, granted-mirrors, keeps-worked, keeps-begun}
+use Rattle.stx_store.proofs.KeepLaws.{head_of, tail_of, mirrors-write, granted-mirrors, keeps-worked, keeps-begun}
 use Rattle.stx_store.proofs.JournalLaws.{WorksLive, commits, committed_rows-push}
 use Rattle.stx_store.proofs.OwedLaws.{entry}
-
-pub head_of : {A : Type 0} {x y : A} {xs ys : List A} → ◌≡◌ {A = List A} (x ∷ xs) (y ∷ ys) → x ≡ y
-head_of e = cc
-
-pub tail_of : {A : Type 0} {x y : A} {xs ys : List A} → ◌≡◌ {A = List A} (x ∷ xs) (y ∷ ys) → xs ≡ ys
-tail_of e = cc
 
 -- ---- stacks
 
