@@ -119,15 +119,14 @@ table_more said states first names next done y all a so_far grows one = (
 )
 
 -- one statement more
-pub body_more : (bean : Option (List ℕ)) (first names next : Numbered) (ss : List Sentence) (i : ℕ) (s d : Sentence) (body : List Stmt) (a : Stmt) → i < length ss → s ≡ get_or ss i d
-    → (names ≡ grown first (take i ss)) × Lasts (λ N. map (stated N bean) (take i ss)) names body → next ≡ grown names (s ∷ []) → a ≡ stated next bean s
-    → (next ≡ grown first (take (i + 1) ss)) × Lasts (λ N. map (stated N bean) (take (i + 1) ss)) next (body ++ a ∷ [])
-body_more bean first names next ss i s d body a below here so_far grows is =
-    rw (take_more ss i d below, ← here) (
-      grows ∙ ap (λ N. grown N (s ∷ [])) so_far.0 ∙ grown_more first (take i ss) (s ∷ []),
-      lasts_more (λ N. stated N bean) names next (s ∷ []) (take i ss) s body a grows
-          (λ more. is ∙ ap (λ N. stated N bean s) grows ∙ statement_lasts names bean s more ∙ ap (λ N. stated (grown N more) bean s) (sym grows)) so_far.1,
-    )
+pub statement_more : (bean : Option (List ℕ)) (first names next : Numbered) (done : List Sentence) (s : Sentence) (body : List Stmt) (a : Stmt)
+    → (names ≡ grown first done) × Lasts (λ N. map (stated N bean) done) names body → next ≡ grown names (s ∷ []) → a ≡ stated next bean s
+    → (next ≡ grown first (done ++ s ∷ [])) × Lasts (λ N. map (stated N bean) (done ++ s ∷ [])) next (body ++ a ∷ [])
+statement_more bean first names next done s body a so_far grows is = (
+  grows ∙ ap (λ N. grown N (s ∷ [])) so_far.0 ∙ grown_more first done (s ∷ []),
+  lasts_more (λ N. stated N bean) names next (s ∷ []) done s body a grows
+      (λ more. is ∙ ap (λ N. stated N bean s) grows ∙ statement_lasts names bean s more ∙ ap (λ N. stated (grown N more) bean s) (sym grows)) so_far.1,
+)
 
 -- what is made by these names lasts while more rows are added
 pub lasts_on : {A : Type 0} (made : Numbered → A) (names next : Numbered) (said : List Sentence) (a : A) → next ≡ grown names said → Lasts made names a → Lasts made next a

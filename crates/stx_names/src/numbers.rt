@@ -54,6 +54,20 @@ impl Numbers {
         Ok(true)
     }
 
+    /// The number of a name, which goes to the end unless it is there already.
+    pub fn number_for(&mut self, alloc: Global, name: &str) -> Result<u32, NoMemory>
+        ensures names { OnOk result (self.new ≡ with_name self.old name.now) }
+        ensures number { IfOk result (λ number. number ≡ number_of self.new name.now) }
+    {
+        match self.names.get_index_of(name) {
+            Some(place) => Ok(place as u32),
+            None => {
+                self.add(alloc, name)?;
+                Ok(self.number_of(name))
+            }
+        }
+    }
+
     pub fn has(&self, name: &str) -> bool
         ensures { result ≡ has_name self.now name.now }
     {
