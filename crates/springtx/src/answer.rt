@@ -5,7 +5,7 @@ ghost use Rattle.stx_base.specs.RulesText.{rules_text as text_of_rules};
 ghost use Rattle.stx_base.specs.Weight.{weight as weight_in};
 ghost use Rattle.stx_judge.specs.Judge.{IsValid};
 ghost use Rattle.stx_words.specs.Jobs.{HasClients};
-ghost use Rattle.springtx.specs.Tool.{IsResponse, check_text as text_of_check, needs_input as job_needs_input, own_play};
+ghost use Rattle.springtx.specs.Tool.{IsReadingFor, IsResponse, Tells, check_text as text_of_check, needs_input as job_needs_input, own_play};
 
 use std::alloc::Global;
 use stx_base::Report;
@@ -26,32 +26,47 @@ pub fn needs_input(job: Job) -> bool
 }
 
 /// Reads or generates a scenario and does the job with it, or says why not.
-#[tactic(auto, using(crate::proofs::ToolLaws::play_is_done, crate::proofs::ToolLaws::check_is_done, crate::proofs::ToolLaws::rules_is_done, crate::proofs::ToolLaws::load_is_done))]
 pub fn answer_to(alloc: Global, job: Job, bytes: &[u8]) -> Result<Response, NoMemory>
     requires { HasClients job }
     ensures { IfOk result (λ response. IsResponse job bytes.now response) }
 {
+    match scenario_for(alloc, job, bytes)? {
+        Reading::Accepted(scenario) => {
+            let (report, text) = told(alloc, job, scenario)?;
+            Ok(Response::Done(report, text))
+        }
+        Reading::Refused(text) => Ok(Response::Refused(text)),
+    }
+}
+
+/// The scenario that a job is done with, if the job isn't refused: it is read or generated.
+fn scenario_for(alloc: Global, job: Job, bytes: &[u8]) -> Result<Reading, NoMemory>
+    requires { HasClients job }
+    ensures { IfOk result (λ reading. IsReadingFor job bytes.now reading) }
+{
     match job {
-        Job::Play => match read(alloc, bytes)? {
-            Reading::Accepted(scenario) => {
-                let report = played(alloc, scenario)?;
-                let text = print(alloc, &report.scenario, &report.outcome)?;
-                Ok(Response::Done(Some(report), text))
-            }
-            Reading::Refused(text) => Ok(Response::Refused(text)),
-        },
-        Job::Check => match read(alloc, bytes)? {
-            Reading::Accepted(scenario) => Ok(Response::Done(None, checked(alloc, &scenario)?)),
-            Reading::Refused(text) => Ok(Response::Refused(text)),
-        },
-        Job::Rules => match read(alloc, bytes)? {
-            Reading::Accepted(scenario) => Ok(Response::Done(None, decided(alloc, scenario)?)),
-            Reading::Refused(text) => Ok(Response::Refused(text)),
-        },
-        Job::Load { seed, clients } => {
-            let report = played(alloc, generated(alloc, seed, clients)?)?;
+        Job::Load { seed, clients } => Ok(Reading::Accepted(generated(alloc, seed, clients)?)),
+        Job::Play | Job::Check | Job::Rules => read(alloc, bytes),
+    }
+}
+
+/// What a job reports and tells of its scenario.
+fn told(alloc: Global, job: Job, scenario: Scenario) -> Result<(Option<Report>, Vec<u8>), NoMemory>
+    requires { IsValid scenario }
+    ensures { IfOk result (λ told. Tells job scenario told.0 told.1.items) }
+{
+    match job {
+        Job::Play => {
+            let report = played(alloc, scenario)?;
+            let text = print(alloc, &report.scenario, &report.outcome)?;
+            Ok((Some(report), text))
+        }
+        Job::Check => Ok((None, checked(alloc, &scenario)?)),
+        Job::Rules => Ok((None, decided(alloc, scenario)?)),
+        Job::Load { seed, .. } => {
+            let report = played(alloc, scenario)?;
             let text = summary(alloc, seed, &report.scenario, &report.outcome)?;
-            Ok(Response::Done(Some(report), text))
+            Ok((Some(report), text))
         }
     }
 }

@@ -1,14 +1,18 @@
--- What a run of the tool read, answered and wrote.
-use Rattle.std.specs.Prelude.{◌≡◌, ℕ, Bool, true, false, List, Option, Some, None, Ok, String}
+-- The jobs of the program: what each reads, reports and tells, and what its top call promises.
+use Rattle.std.specs.Prelude.{◌≡◌, ℕ, Bool, true, false, List, Option, Some, None, Result, Ok, String}
 use Rattle.std.specs.declared.alloc.Global.{Global}
 use Rattle.stx_base.specs.declared.outcome.Report.{Report}
+use Rattle.stx_base.specs.declared.outcome.ToolEnd.{ToolEnd}
+use Rattle.stx_outside.specs.Streams.{GainsEnd}
 use Rattle.stx_model.specs.Faithful.{Faithful}
 use Rattle.stx_base.specs.Report as reports
 use Rattle.stx_read.specs.Reading.{scenario_of}
 use Rattle.stx_report.specs.SummaryText.{summary}
 use Rattle.stx_load.specs.Generated as load
 use Rattle.stx_tool.specs.declared.response.Response.{Response}
+use Rattle.stx_tool.specs.declared.early.Early.{Early}
 use Rattle.stx_tool.specs.Ends as ends
+use Rattle.stx_tool.specs.Responses as responses
 use Rattle.stx_tool.specs.Readings.{refusal}
 use Rattle.stx_words.specs.declared.run_job.RunJob.{RunJob}
 use Rattle.stx_words.specs.Jobs.{run_job_of}
@@ -52,28 +56,17 @@ Fulfils (RunJob.Load seed clients) = λ bytes. IsLoaded seed clients
 abbrev pub IsResponse : RunJob → List ℕ → Response → Type 0
 IsResponse = ends.IsResponse Fulfils refusal_of
 
--- ---- runs; `Wrote` says what became of the text
+-- ---- the top call
 
--- whether the words state a job that needs input
-abbrev pub is_input_needed : List (String Global) → Bool
-is_input_needed words = ends.is_input_needed needs_input (run_job_of words)
+-- at status 0: the words state a job, the input that it needs was read, the job was done, and just its text was written
+abbrev pub IsDone : List (String Global) → Option (List ℕ) → Option (List ℕ) → Option (List ℕ) → Option (List ℕ) → Option Report → Type 0
+IsDone words left_before left_now taken_before taken_now report =
+    ends.IsAnswered needs_input (run_job_of words) left_before left_now (ends.IsDone Fulfils (GainsEnd taken_before taken_now) report)
 
--- the words state a job; the input that it needs was read, and this became of both
-abbrev pub IsAnswered : List (String Global) → Option (List ℕ) → Option (List ℕ) → (RunJob → List ℕ → Type 0) → Type 0
-IsAnswered words = ends.IsAnswered needs_input (run_job_of words)
+-- and the rest, at any status
+abbrev pub IsEnd : List (String Global) → Type 0 → Option (List ℕ) → Option (List ℕ) → ℕ → ℕ → Option (List ℕ) → Option (List ℕ) → ℕ → ℕ → ToolEnd → Type 0
+IsEnd words = ends.IsEnd needs_input Fulfils refusal_of (run_job_of words)
 
--- the job was done
-abbrev pub IsDone : (List ℕ → Type 0) → Option Report → RunJob → List ℕ → Type 0
-IsDone = ends.IsDone Fulfils
-
--- the job was refused
-abbrev pub IsRefused : (List ℕ → Type 0) → Option Report → RunJob → List ℕ → Type 0
-IsRefused = ends.IsRefused refusal_of
-
--- done or refused, and written in part
-abbrev pub IsCutShort : (List ℕ → Type 0) → Option Report → RunJob → List ℕ → Type 0
-IsCutShort = ends.IsCutShort Fulfils refusal_of
-
--- the words state a job, and what the source has is input that it is done with
-abbrev pub IsAccepted : List (String Global) → Option (List ℕ) → Type 0
-IsAccepted words = ends.IsAccepted needs_input (run_job_of words) refusal_of
+-- before anything is written
+abbrev pub IsResponded : List (String Global) → Type 0 → Option (List ℕ) → Option (List ℕ) → ℕ → ℕ → Result Response Early → Type 0
+IsResponded words = responses.IsResponded needs_input Fulfils refusal_of (run_job_of words)

@@ -1,10 +1,12 @@
 -- How a top call ends: its statuses, and what it read, answered and wrote. `J` is the type of a program's jobs.
-use Rattle.std.specs.Prelude.{◌≡◌, ◌⊎◌, ◌==◌, ℕ, ◌≤◌, Bool, true, false, List, [], ◌∷◌, length, Option, Some, None}
+use Rattle.std.specs.Prelude.{◌≡◌, ◌≢◌, ◌⊎◌, ◌==◌, ℕ, ◌≤◌, Bool, true, false, IsTrue, List, [], ◌∷◌, length, Option, Some, None, IsNone}
 use Rattle.std.specs.List.{list_any}
 use Rattle.std.specs.Option.{option_map_or}
 use Rattle.stx_scenario.specs.declared.limits.TheConstants.{MOST_INPUT_BYTES}
+use Rattle.stx_scenario.specs.declared.scenario.Scenario.{Scenario}
 use Rattle.stx_base.specs.declared.outcome.Report.{Report}
-use Rattle.stx_outside.specs.Streams.{LosesAll}
+use Rattle.stx_base.specs.declared.outcome.ToolEnd.{ToolEnd}
+use Rattle.stx_outside.specs.Streams.{Rose, GainsEnd, GainsPrefix, LosesAll, LosesMore, LosesWithin}
 use Rattle.stx_tool.specs.declared.response.Response.{Response}
 
 -- each end has one of these statuses
@@ -23,6 +25,12 @@ HasInput true before now bytes = LosesAll before now bytes × (length bytes ≤ 
 HasInput false before now bytes = (now ≡ before) × (bytes ≡ [])
 
 -- ---- what is responded to it
+
+-- a job is done with these bytes: it has a scenario, and this is what it reports and tells of it
+pub record Fulfils {J : Type 0} (IsScenarioOf : J → List ℕ → Scenario → Type 0) (Tells : J → Scenario → Option Report → List ℕ → Type 0) (job : J) (bytes : List ℕ) (report : Option Report) (text : List ℕ) : Type 0 where
+  pub scenario : Scenario
+  pub its_own : IsScenarioOf job bytes scenario
+  pub told : Tells job scenario report text
 
 -- the text and the report of a response. `Fulfils` says what a job that is done reports and tells of these bytes, and `refusal`
 -- why it isn't done with them
@@ -75,3 +83,33 @@ pub record IsAccepted {J : Type 0} (needs_input : J → Bool) (stated : Option J
   pub input : List ℕ
   pub there : IsInput (needs_input job) left input
   pub accepted : refusal job input ≡ None
+
+-- ---- the end of a top call
+
+-- What every top call promises of its end, beside what it is to have done at status 0. `stated` is the job that the words state,
+-- and `Untouched` says that the source is as it was; then the bytes that the source had left and has left, and its counts of
+-- faults before and now, and of the sink the bytes that it had taken and has taken, and its counts.
+pub record IsEnd {J : Type 0} (needs_input : J → Bool) (Fulfils : J → List ℕ → Option Report → List ℕ → Type 0) (refusal : J → List ℕ → Option (List ℕ)) (stated : Option J)
+    (Untouched : Type 0) (left_before left_now : Option (List ℕ)) (source_before source_now : ℕ) (taken_before taken_now : Option (List ℕ)) (sink_before sink_now : ℕ) (end : ToolEnd) : Type 0 where
+  pub status : IsTrue (is_status end.status)
+  -- 2: the words state no job
+  pub usage : end.status ≡ 2 → IsNone stated
+  pub unstated : IsNone stated → (end.status ≡ 2) ⊎ (end.status ≡ 6)
+  -- no input is read where the words state no job, or one that needs none
+  pub unread : is_input_needed needs_input stated ≡ false → Untouched
+  -- 3: a read failed, and at every other end none did
+  pub read_fault : end.status ≡ 3 → Rose source_before source_now
+  pub read_well : end.status ≢ 3 → source_now ≡ source_before
+  -- 4: the bytes state no valid scenario
+  pub refused : end.status ≡ 4 → IsAnswered needs_input stated left_before left_now (IsRefused refusal (GainsEnd taken_before taken_now) end.report)
+  -- 5: a write failed; a prefix of the text was written
+  pub write_fault : end.status ≡ 5 → Rose sink_before sink_now
+  pub cut_short : end.status ≡ 5 → IsAnswered needs_input stated left_before left_now (IsCutShort Fulfils refusal (GainsPrefix taken_before taken_now) end.report)
+  -- 7: exactly where more bytes came than a scenario may have
+  pub too_long : end.status ≡ 7 → LosesMore MOST_INPUT_BYTES left_before left_now
+  pub no_longer : end.status ≢ 7 → LosesWithin MOST_INPUT_BYTES left_before left_now
+  -- 2, 3, 6 for want of memory, and 7 come before anything is written
+  pub nothing : IsTrue (is_early end.status) → taken_now ≡ taken_before
+  pub unreported : IsTrue (is_early end.status) → end.report ≡ None
+  -- what is accepted is done, unless a read or a write failed or memory ran out
+  pub complete : IsAccepted needs_input stated refusal left_before → ¬ (Rose source_before source_now) → ¬ (Rose sink_before sink_now) → (end.status ≡ 0) ⊎ (end.status ≡ 6)

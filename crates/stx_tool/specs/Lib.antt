@@ -1,2 +1,4 @@
+pub mod Early
 pub mod Readings
+pub mod Responses
 pub mod Ends
