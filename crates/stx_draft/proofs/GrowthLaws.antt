@@ -5,7 +5,7 @@ use Rattle.std.proofs.lemmas.List.{map-append, take_more}
 use Rattle.std.proofs.lemmas.List.Concat.{flat_map-cons}
 use Rattle.std.proofs.lemmas.List.Folds.{list_any-append}
 use Rattle.std.proofs.lemmas.Iterator.Adapters.{position_from-zero}
-use Rattle.std.proofs.lemmas.Grind.{flat_map-append}
+use Rattle.std.proofs.lemmas.Grind.{fold-append, flat_map-append}
 use Rattle.std.specs.List.{list_any, position_from, flat_map, filter_map}
 use Rattle.std.specs.Option.{option_map, option_and_then}
 use Rattle.std.specs.Str.{bytes_eq}
@@ -22,10 +22,9 @@ use Rattle.stx_scenario.specs.declared.scenario.Phase.{Phase}
 use Rattle.stx_scenario.specs.declared.scenario.Stmt.{Stmt}
 use Rattle.stx_scenario.specs.Names.{has_name}
 use Rattle.stx_names.specs.Numbers.{with_name, number_of, nothing}
-use Rattle.stx_draft.specs.Draft.{row_said, stated, body_at, matched_by, rule_of, tx_in, tx_at, order_at, method_in_table, sync_in, listener_in}
+use Rattle.stx_draft.specs.Draft.{row_said, with_rows, stated, body_at, matched_by, rule_of, tx_in, tx_at, order_at, method_in_table, sync_in, listener_in}
 use Rattle.stx_draft.specs.Parts.{text_at, flag_at, table_at, texts_at}
 use Rattle.stx_draft.specs.inner.Growing.{grown, Lasts}
-use Rattle.stx_draft.proofs.RowLaws.{with_rows-append}
 
 -- ---- a name keeps its number
 
@@ -90,6 +89,9 @@ statement_lasts names bean (Sentence.Publish event) = λ more. refl
 statement_lasts names bean (Sentence.Register sync) = λ more. refl
 
 -- ---- what is made in turn
+
+with_rows-append : (rows : List (List ℕ)) (a b : List Sentence) → with_rows rows (a ++ b) ≡ with_rows (with_rows rows a) b
+with_rows-append rows a b = rw (flat_map-append row_said a b) (fold-append with_name rows (flat_map row_said a) (flat_map row_said b))
 
 pub grown_more : (names : Numbered) (a b : List Sentence) → grown (grown names a) b ≡ grown names (a ++ b)
 grown_more names a b = rw (with_rows-append names.rows a b)

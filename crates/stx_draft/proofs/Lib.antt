@@ -1,5 +1,4 @@
 pub mod PartLaws
-pub mod RowLaws
 pub mod GrowthLaws
 pub mod LeafLaws
 pub mod DocumentLaws

@@ -4,8 +4,8 @@ use Rattle.std.proofs.lemmas.List.{map-id, at_drop_more, at_drop_all, take_more}
 use Rattle.std.specs.List.{drop-map}
 use Rattle.stx_scenario.specs.declared.scenario.Scenario.{Scenario}
 use Rattle.stx_names.specs.declared.named.Named.{Named}
-use Rattle.stx_refusals.specs.Faults.{first_some}
-use Rattle.stx_names.specs.Duplicates.{names_of, number_of_method, duplicate, duplicate_among}
+use Rattle.stx_refusals.proofs.QuietLaws.{some_none, mapped_none}
+use Rattle.stx_names.specs.Duplicates.{names_of, number_of_method, duplicate_among}
 use Rattle.stx_scenario.specs.Names.{has_name, duplicate_from, built_in_names}
 use Rattle.stx_names.specs.Numbers.{with_name}
 
@@ -78,29 +78,21 @@ pub record AllDiffer (named : Named) : Type 0 where
   pub syncs : duplicate_from [] 0 named.syncs ≡ None
   pub listeners : duplicate_from named.syncs 0 named.listeners ≡ None
 
-first_none : {A : Type 0} (x : Option A) (xs : List (Option A)) → first_some (x ∷ xs) ≡ None → (x ≡ None) × (first_some xs ≡ None)
-first_none None xs none = (refl, none)
-first_none (Some a) xs none = cc
-
-place_none : (path : ℕ → List ℕ) (place : Option ℕ) → duplicate path place ≡ None → place ≡ None
-place_none path None none = refl
-place_none path (Some n) none = cc
-
 pub all_differ : (named : Named) → duplicate_among named ≡ None → AllDiffer named
 all_differ named none =
-    let events = first_none _ _ none in
-    let rows = first_none _ _ events.1 in
-    let classes = first_none _ _ rows.1 in
-    let beans = first_none _ _ classes.1 in
-    let methods = first_none _ _ beans.1 in
-    let syncs = first_none _ _ methods.1 in
-    let listeners = first_none _ _ syncs.1 in
+    let events = some_none _ _ none in
+    let rows = some_none _ _ events.1 in
+    let classes = some_none _ _ rows.1 in
+    let beans = some_none _ _ classes.1 in
+    let methods = some_none _ _ beans.1 in
+    let syncs = some_none _ _ methods.1 in
+    let listeners = some_none _ _ syncs.1 in
     record {
-      events = place_none _ _ events.0;
-      rows = place_none _ _ rows.0;
-      classes = place_none _ _ classes.0;
-      beans = place_none _ _ beans.0;
-      methods = place_none _ _ methods.0;
-      syncs = place_none _ _ syncs.0;
-      listeners = place_none _ _ listeners.0;
+      events = mapped_none _ _ events.0;
+      rows = mapped_none _ _ rows.0;
+      classes = mapped_none _ _ classes.0;
+      beans = mapped_none _ _ beans.0;
+      methods = mapped_none _ _ methods.0;
+      syncs = mapped_none _ _ syncs.0;
+      listeners = mapped_none _ _ listeners.0;
     }

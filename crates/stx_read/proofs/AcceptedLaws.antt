@@ -246,10 +246,12 @@ inner_quiet : (shape : Shape) (inner : Members) (walked : Walked shape inner) �
 inner_quiet shape inner walked = keys_quiet (keys_of shape) walked.path inner (subst (λ faults. IsQuiet faults) (walk_table shape walked.path inner) walked.quiet)
 
 module _ (inner : Members) where
+  named : (path : List ℕ) → IsQuiet (key_faults walk path inner (required (codes "name") (Kind.Value Leaf.Name))) → is_name (text_at (codes "name") inner) ≡ true
+  named path q =
+      text_found Leaf.Name is_name BadName (λ t. refl) refl (λ z. refl) refl (codes "name") (under path (codes "name")) (get_member (codes "name") inner) q
+
   pub row_named : Walked Shape.Row inner → is_name (text_at (codes "name") inner) ≡ true
-  row_named w =
-      text_found Leaf.Name is_name BadName (λ t. refl) refl (λ z. refl) refl (codes "name") (under w.path (codes "name")) (get_member (codes "name") inner)
-      (inner_quiet Shape.Row inner w 0 any_key (omega arith))
+  row_named w = named w.path (inner_quiet Shape.Row inner w 0 any_key (omega arith))
 
   pub class_named : Walked Shape.Class inner → is_class_name (text_at (codes "name") inner) ≡ true
   class_named w =
@@ -257,24 +259,16 @@ module _ (inner : Members) where
       (inner_quiet Shape.Class inner w 0 any_key (omega arith))
 
   pub bean_named : Walked Shape.Bean inner → is_name (text_at (codes "name") inner) ≡ true
-  bean_named w =
-      text_found Leaf.Name is_name BadName (λ t. refl) refl (λ z. refl) refl (codes "name") (under w.path (codes "name")) (get_member (codes "name") inner)
-      (inner_quiet Shape.Bean inner w 0 any_key (omega arith))
+  bean_named w = named w.path (inner_quiet Shape.Bean inner w 0 any_key (omega arith))
 
   pub method_named : Walked Shape.Method inner → is_name (text_at (codes "name") inner) ≡ true
-  method_named w =
-      text_found Leaf.Name is_name BadName (λ t. refl) refl (λ z. refl) refl (codes "name") (under w.path (codes "name")) (get_member (codes "name") inner)
-      (inner_quiet Shape.Method inner w 1 any_key (omega arith))
+  method_named w = named w.path (inner_quiet Shape.Method inner w 1 any_key (omega arith))
 
   pub sync_named : Walked Shape.Sync inner → is_name (text_at (codes "name") inner) ≡ true
-  sync_named w =
-      text_found Leaf.Name is_name BadName (λ t. refl) refl (λ z. refl) refl (codes "name") (under w.path (codes "name")) (get_member (codes "name") inner)
-      (inner_quiet Shape.Sync inner w 0 any_key (omega arith))
+  sync_named w = named w.path (inner_quiet Shape.Sync inner w 0 any_key (omega arith))
 
   pub listener_named : Walked Shape.Listener inner → is_name (text_at (codes "name") inner) ≡ true
-  listener_named w =
-      text_found Leaf.Name is_name BadName (λ t. refl) refl (λ z. refl) refl (codes "name") (under w.path (codes "name")) (get_member (codes "name") inner)
-      (inner_quiet Shape.Listener inner w 0 any_key (omega arith))
+  listener_named w = named w.path (inner_quiet Shape.Listener inner w 0 any_key (omega arith))
 
   pub bean_tx : Walked Shape.Bean inner → IfSome (table_at (codes "tx") inner) (Walked Shape.Tx)
   bean_tx w = table_found Shape.Tx (codes "tx") (under w.path (codes "tx")) (get_member (codes "tx") inner) (inner_quiet Shape.Bean inner w 1 any_key (omega arith))
