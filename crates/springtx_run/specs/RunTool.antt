@@ -1,14 +1,18 @@
 -- The jobs of the program: what each reads, reports and tells, and what its top call promises.
 use Rattle.std.specs.Prelude.{◌≡◌, ℕ, Bool, true, false, List, Option, Some, None, Result, Ok, String}
 use Rattle.std.specs.declared.alloc.Global.{Global}
+use Rattle.stx_scenario.specs.declared.scenario.Scenario.{Scenario}
+use Rattle.stx_base.specs.declared.outcome.Outcome.{Outcome}
 use Rattle.stx_base.specs.declared.outcome.Report.{Report}
 use Rattle.stx_base.specs.declared.outcome.ToolEnd.{ToolEnd}
 use Rattle.stx_outside.specs.Streams.{GainsEnd}
 use Rattle.stx_model.specs.Faithful.{Faithful}
-use Rattle.stx_base.specs.Report as reports
+use Rattle.stx_base.specs.Report.{printed}
+use Rattle.stx_judge.specs.Judge.{IsValid}
 use Rattle.stx_read.specs.Reading.{scenario_of}
+use Rattle.stx_tool.specs.declared.reading.Reading.{Reading}
 use Rattle.stx_report.specs.SummaryText.{summary}
-use Rattle.stx_load.specs.Generated as load
+use Rattle.stx_load.specs.Generated.{generated}
 use Rattle.stx_tool.specs.declared.response.Response.{Response}
 use Rattle.stx_tool.specs.declared.early.Early.{Early}
 use Rattle.stx_tool.specs.Ends as ends
@@ -27,30 +31,38 @@ abbrev pub refusal_of : RunJob → List ℕ → Option (List ℕ)
 refusal_of RunJob.Run = refusal
 refusal_of (RunJob.Load seed clients) = λ bytes. None
 
--- The bytes state a scenario, and the report tells of a faithful run of it: for each client the lines are exactly the script
--- that its calls denote given what its own pool and store calls answered; those answers are a one-thread pool's and store's in
--- one kept order each; the committed transactions, replayed alone in journal order, find what they found and give the rows
--- that are told; and every connection is back. The text is that report's.
-pub record IsRun (bytes : List ℕ) (report : Option Report) (text : List ℕ) : Type 0 where
-  pub run : Report
-  pub reported : report ≡ Some run
-  pub accepted : scenario_of bytes ≡ Ok run.scenario
-  pub faithful : Faithful run.scenario run.outcome
-  pub printed : text ≡ reports.printed run.scenario run.outcome
+-- the scenario that a job is done with: the one that the bytes state, or that the seed gives for so many clients
+abbrev pub IsScenarioOf : RunJob → List ℕ → Scenario → Type 0
+IsScenarioOf RunJob.Run bytes S = scenario_of bytes ≡ Ok S
+IsScenarioOf (RunJob.Load seed clients) bytes S = S ≡ generated seed clients
 
--- the scenario is the one that this seed gives for so many clients, the report tells of a faithful run of it in the same words,
--- and the text is its summary
-pub record IsLoaded (seed clients : ℕ) (report : Option Report) (text : List ℕ) : Type 0 where
-  pub run : Report
-  pub reported : report ≡ Some run
-  pub generated : run.scenario ≡ load.generated seed clients
-  pub faithful : Faithful run.scenario run.outcome
-  pub told : text ≡ summary seed run.scenario run.outcome
+-- The report tells of a faithful run of a scenario: for each client the lines are exactly the script that its calls denote given
+-- what its own pool and store calls answered; those answers are a one-thread pool's and store's in one kept order each; the
+-- committed transactions, replayed alone in journal order, find what they found and give the rows that are told; and every
+-- connection is back. This is the text of it.
+pub record IsRun (text_of : Scenario → Outcome → List ℕ) (S : Scenario) (report : Option Report) (text : List ℕ) : Type 0 where
+  pub outcome : Outcome
+  pub reported : report ≡ Some (record { scenario = S; outcome = outcome })
+  pub faithful : Faithful S outcome
+  pub told : text ≡ text_of S outcome
 
--- what a job reports and tells, where it is done with these bytes
+-- the text of a run, by the job: its report, or the summary of a load
+abbrev pub text_of : RunJob → Scenario → Outcome → List ℕ
+text_of RunJob.Run = printed
+text_of (RunJob.Load seed clients) = summary seed
+
+-- what a job reports and tells of its scenario
+abbrev pub Tells : RunJob → Scenario → Option Report → List ℕ → Type 0
+Tells job = IsRun (text_of job)
+
+-- the job is done with these bytes
 abbrev pub Fulfils : RunJob → List ℕ → Option Report → List ℕ → Type 0
-Fulfils RunJob.Run = IsRun
-Fulfils (RunJob.Load seed clients) = λ bytes. IsLoaded seed clients
+Fulfils = ends.Fulfils IsScenarioOf Tells
+
+-- what is read or generated for a job: its scenario, or why it isn't done
+abbrev pub IsReadingFor : RunJob → List ℕ → Reading → Type 0
+IsReadingFor job bytes (Reading.Accepted S) = IsScenarioOf job bytes S × IsValid S
+IsReadingFor job bytes (Reading.Refused text) = refusal_of job bytes ≡ Some text.items
 
 -- the text and the report of a response
 abbrev pub IsResponse : RunJob → List ℕ → Response → Type 0

@@ -3,7 +3,7 @@ ghost use Rattle.std.specs.Prelude.{◌≡◌, IfOk};
 ghost use Rattle.stx_model.specs.Faithful.{Faithful};
 ghost use Rattle.stx_judge.specs.Judge.{IsValid};
 ghost use Rattle.stx_words.specs.Jobs.{RunHasClients};
-ghost use Rattle.springtx_run.specs.RunTool.{IsResponse, needs_input as job_needs_input};
+ghost use Rattle.springtx_run.specs.RunTool.{IsReadingFor, IsResponse, needs_input as job_needs_input, text_of};
 
 use std::alloc::Global;
 use std::sync::Wait;
@@ -25,7 +25,7 @@ pub fn needs_input(job: RunJob) -> bool
 }
 
 /// Reads or generates a scenario and does the job with it, or says why not.
-#[tactic(auto, using(crate::proofs::RunToolLaws::run_is_done, crate::proofs::RunToolLaws::load_is_done))]
+#[tactic(auto, using(crate::proofs::RunToolLaws::is_run))]
 pub fn answer_to<R: Threads + Wait + Sync, G: Gate>(
     rt: &R,
     alloc: Global,
@@ -36,20 +36,33 @@ pub fn answer_to<R: Threads + Wait + Sync, G: Gate>(
     requires { RunHasClients job }
     ensures { IfOk result (λ response. IsResponse job bytes.now response) }
 {
+    let scenario = match scenario_for(alloc, job, bytes)? {
+        Reading::Accepted(scenario) => scenario,
+        Reading::Refused(text) => return Ok(Response::Refused(text)),
+    };
+    let report = ran(rt, alloc, scenario, gate)?;
+    let text = told(alloc, job, &report)?;
+    Ok(Response::Done(Some(report), text))
+}
+
+/// The scenario that a job is done with, if the job isn't refused: it is read or generated.
+fn scenario_for(alloc: Global, job: RunJob, bytes: &[u8]) -> Result<Reading, NoMemory>
+    requires { RunHasClients job }
+    ensures { IfOk result (λ reading. IsReadingFor job bytes.now reading) }
+{
     match job {
-        RunJob::Run => match read(alloc, bytes)? {
-            Reading::Accepted(scenario) => {
-                let report = ran(rt, alloc, scenario, gate)?;
-                let text = print(alloc, &report.scenario, &report.outcome)?;
-                Ok(Response::Done(Some(report), text))
-            }
-            Reading::Refused(text) => Ok(Response::Refused(text)),
-        },
-        RunJob::Load { seed, clients } => {
-            let report = ran(rt, alloc, generated(alloc, seed, clients)?, gate)?;
-            let text = summary(alloc, seed, &report.scenario, &report.outcome)?;
-            Ok(Response::Done(Some(report), text))
-        }
+        RunJob::Run => read(alloc, bytes),
+        RunJob::Load { seed, clients } => Ok(Reading::Accepted(generated(alloc, seed, clients)?)),
+    }
+}
+
+/// What a job tells of a run.
+fn told(alloc: Global, job: RunJob, report: &Report) -> Result<Vec<u8>, NoMemory>
+    ensures { IfOk result (λ text. text.items ≡ text_of job report.now.scenario report.now.outcome) }
+{
+    match job {
+        RunJob::Run => print(alloc, &report.scenario, &report.outcome),
+        RunJob::Load { seed, .. } => summary(alloc, seed, &report.scenario, &report.outcome),
     }
 }
 
