@@ -8,7 +8,7 @@ use Rattle.toml.specs.Parse.{parse_document}
 use Rattle.stx_draft.specs.Document.{document_of, early_refusal, refused_in}
 use Rattle.stx_refusals.proofs.QuietLaws.{some_none}
 use Rattle.stx_names.specs.Duplicates.{duplicate_among}
-use Rattle.stx_draft.specs.Walk.{document_faults}
+use Rattle.stx_walk.specs.Walk.{document_faults}
 use Rattle.stx_draft.specs.DeclaredNames.{names_in}
 
 pub document_read : (bytes : List ℕ) (ms : Members) → IsUtf8 bytes × (parse_document bytes ≡ Some ms) → document_of bytes ≡ Some ms

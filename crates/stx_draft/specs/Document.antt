@@ -7,7 +7,7 @@ use Rattle.stx_refusals.specs.declared.fault.Fault.{Fault}
 use Rattle.stx_refusals.specs.declared.fault.ReadFault.{ReadFault}
 use Rattle.stx_refusals.specs.declared.fault.Stage.{Stage}
 use Rattle.stx_refusals.specs.Faults.{first_at, first_some}
-use Rattle.stx_draft.specs.Walk.{document_faults}
+use Rattle.stx_walk.specs.Walk.{document_faults}
 use Rattle.stx_names.specs.Duplicates.{duplicate_among}
 use Rattle.stx_draft.specs.DeclaredNames.{names_in}
 

@@ -1,5 +1,3 @@
-pub mod Schema
-pub mod Walk
 pub mod Parts
 pub mod DeclaredNames
 pub mod Document

@@ -1,3 +1,2 @@
 -- Words of this crate's own functions; no caller needs them.
 pub mod Growing
-pub mod Places

@@ -6,11 +6,11 @@ ghost use Rattle.toml.specs.View.{table_view};
 ghost use Rattle.stx_draft.specs.Document.{document_of, early_refusal as refusal_before_duplicates, refused_in as refusal_of};
 
 use crate::declared_names::names_in;
-use crate::walk::document_faults;
 use std::alloc::{AllocError, Global};
 use stx_names::duplicate_among;
 use stx_refusals::{Fault, ReadFault, Stage, first_at};
 use stx_scenario::NoMemory;
+use stx_walk::document_faults;
 use toml::Table;
 use toml::de::Error;
 

@@ -14,16 +14,16 @@ use Rattle.stx_refusals.specs.declared.fault.Stage.{Stage}
 use Rattle.stx_refusals.specs.declared.fault.Stage.TheVariants.{UnknownKey, Missing, WrongType, BadName, OutOfRange, TooMany, BadWord}
 use Rattle.stx_refusals.specs.Faults.{under, entry, refused, unless, count_stage, is_stage, first_at}
 use Rattle.stx_refusals.proofs.QuietLaws.{Quiet, InArray, some_none, quiet_both, quiet_passed, quiet_many, quiet_first, or_quiet}
-use Rattle.stx_draft.specs.declared.schema.Shape.{Shape}
-use Rattle.stx_draft.specs.declared.schema.Leaf.{Leaf}
-use Rattle.stx_draft.specs.declared.schema.Kind.{Kind}
-use Rattle.stx_draft.specs.Schema.{Key, required, optional, root_keys, keys_of, leaf_stage, text_stage, number_stage, flag_stage}
-use Rattle.stx_draft.specs.Walk.{count, missing, each_item, entry_faults, found_faults, key_faults, unknown_faults, table_faults, walk, document_faults}
+use Rattle.stx_walk.specs.declared.schema.Shape.{Shape}
+use Rattle.stx_walk.specs.declared.schema.Leaf.{Leaf}
+use Rattle.stx_walk.specs.declared.schema.Kind.{Kind}
+use Rattle.stx_walk.specs.Schema.{Key, required, optional, root_keys, keys_of, leaf_stage, text_stage, number_stage, flag_stage}
+use Rattle.stx_walk.specs.Walk.{count, missing, each_item, entry_faults, found_faults, key_faults, unknown_faults, table_faults, walk, document_faults}
 use Rattle.stx_draft.specs.Parts.{text_at, number_at, table_at, entries, texts_at, tables_at, numbers_at}
 use Rattle.stx_names.specs.Duplicates.{duplicate_among}
 use Rattle.stx_draft.specs.DeclaredNames.{names_in}
 use Rattle.stx_draft.specs.Document.{early_refusal, refused_in}
-use Rattle.stx_draft.proofs.WalkLaws.{walk_table}
+use Rattle.stx_walk.proofs.WalkLaws.{walk_table}
 
 -- the stages that look at single places of a document
 abbrev pub is_single : Stage → Bool

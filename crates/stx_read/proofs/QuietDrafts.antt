@@ -22,7 +22,7 @@ use Rattle.stx_refusals.specs.declared.fault.Stage.{Stage}
 use Rattle.stx_refusals.specs.declared.fault.Stage.TheVariants.{BadName, OutOfRange, TooMany, BadWord, UnknownRef}
 use Rattle.stx_refusals.specs.Faults.{under, entry, refused, unless, count_stage, count_faults, each_from, is_stage}
 use Rattle.stx_refusals.proofs.QuietLaws.{Quiet, both_true, quiet_append, quiet_unless, quiet_other, quiet_few, quiet_mapped, quiet_listed, first_none}
-use Rattle.stx_draft.specs.declared.schema.Shape.{Shape}
+use Rattle.stx_walk.specs.declared.schema.Shape.{Shape}
 use Rattle.stx_draft.specs.DeclaredNames.{names_in}
 use Rattle.stx_draft.specs.Document.{refused_in}
 use Rattle.stx_draft.specs.Draft

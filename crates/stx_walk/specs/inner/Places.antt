@@ -1,8 +1,8 @@
 -- The paths of places that are told by their parts.
 use Rattle.std.specs.Prelude.{ℕ, List, Option, Some, None, option_copied}
 use Rattle.stx_refusals.specs.Faults.{under, entry}
-use Rattle.stx_draft.specs.declared.place.Holder.{Holder}
-use Rattle.stx_draft.specs.declared.place.Place.{Place}
+use Rattle.stx_walk.specs.declared.place.Holder.{Holder}
+use Rattle.stx_walk.specs.declared.place.Place.{Place}
 
 -- a path, or that of an entry of the array there
 abbrev pub at_entry : List ℕ → Option ℕ → List ℕ

@@ -3,12 +3,12 @@ use Rattle.std.proofs.Common.{◌≡◌, ◌∙◌, Some, None, option_map, map,
 use Rattle.toml.specs.Data.{get_member}
 use Rattle.toml.specs.View.{view, table_view}
 use Rattle.toml.proofs.Views.{table_get}
-use Rattle.stx_draft.specs.Schema.{key_of}
+use Rattle.stx_walk.specs.Schema.{key_of}
 use Rattle.std.specs.List.{flat_map}
-use Rattle.stx_draft.specs.Walk.{walk, key_faults}
-use Rattle.stx_draft.specs.inner.Places.{holder_path, place_path}
-use Rattle.stx_draft.proofs.WalkLaws.{fields_end, key_found, key_missing, table_end, tables_begin, entry_table}
-use Rattle.stx_draft.proofs.walk.+walk.Goals as goal
+use Rattle.stx_walk.specs.Walk.{walk, key_faults}
+use Rattle.stx_walk.specs.inner.Places.{holder_path, place_path}
+use Rattle.stx_walk.proofs.WalkLaws.{fields_end, key_found, key_missing, table_end, tables_begin, entry_table}
+use Rattle.stx_walk.proofs.walk.+walk.Goals as goal
 
 pub entry_faults-returns-in-Table : goal.entry_faults-returns-in-Table
 entry_faults-returns-in-Table t c =

@@ -2,12 +2,12 @@
 use Rattle.std.proofs.Common.{◌≡◌, ◌++◌, map, drop}
 use Rattle.std.specs.List.{flat_map}
 use Rattle.toml.specs.View.{view, table_view, items_view}
-use Rattle.stx_draft.specs.declared.schema.Kind.{Kind}
+use Rattle.stx_walk.specs.declared.schema.Kind.{Kind}
 use Rattle.stx_refusals.specs.Faults.{entry}
-use Rattle.stx_draft.specs.Schema.{key_of}
-use Rattle.stx_draft.specs.Walk.{each_item, entry_faults, value_faults, key_faults, walk}
-use Rattle.stx_draft.specs.inner.Places.{holder_path, place_path}
-use Rattle.stx_draft.proofs.walk.+walk.Given as goal
+use Rattle.stx_walk.specs.Schema.{key_of}
+use Rattle.stx_walk.specs.Walk.{each_item, entry_faults, value_faults, key_faults, walk}
+use Rattle.stx_walk.specs.inner.Places.{holder_path, place_path}
+use Rattle.stx_walk.proofs.walk.+walk.Given as goal
 
 abbrev pub invariant-table_faults-loop-field : goal.invariant-table_faults-loop-field
 invariant-table_faults-loop-field l =

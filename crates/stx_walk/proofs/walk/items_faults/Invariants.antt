@@ -2,9 +2,9 @@
 use Rattle.std.proofs.Common.{◌≡◌, ◌++◌, drop}
 use Rattle.toml.specs.View.{items_view}
 use Rattle.stx_refusals.specs.Faults.{refused, entry}
-use Rattle.stx_draft.specs.Schema.{leaf_stage}
-use Rattle.stx_draft.specs.Walk.{each_item}
-use Rattle.stx_draft.proofs.walk.items_faults.Given as goal
+use Rattle.stx_walk.specs.Schema.{leaf_stage}
+use Rattle.stx_walk.specs.Walk.{each_item}
+use Rattle.stx_walk.proofs.walk.items_faults.Given as goal
 
 abbrev pub invariant-loop-at : goal.invariant-loop-at
 invariant-loop-at l =

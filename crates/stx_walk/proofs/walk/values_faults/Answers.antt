@@ -2,9 +2,9 @@
 use Rattle.std.proofs.Common.{◌≡◌, Some, length, sym, ap, ◌∙◌}
 use Rattle.toml.specs.Data.{as_array}
 use Rattle.toml.specs.View.{view, items_view}
-use Rattle.stx_draft.specs.inner.Places.{place_path}
-use Rattle.stx_draft.proofs.WalkLaws.{values_begin}
-use Rattle.stx_draft.proofs.walk.values_faults.Goals as goal
+use Rattle.stx_walk.specs.inner.Places.{place_path}
+use Rattle.stx_walk.proofs.WalkLaws.{values_begin}
+use Rattle.stx_walk.proofs.walk.values_faults.Goals as goal
 
 pub returns : goal.returns
 returns c =

@@ -12,13 +12,13 @@ use Rattle.toml.specs.declared.value.Value.TheVariants.{Array, Table}
 use Rattle.toml.proofs.Views.{view-Array, view-Table}
 use Rattle.stx_refusals.specs.declared.fault.Fault.{Fault}
 use Rattle.stx_refusals.specs.declared.fault.Stage.{Stage}
-use Rattle.stx_draft.specs.declared.schema.Field.{Field}
-use Rattle.stx_draft.specs.declared.schema.Kind.{Kind}
-use Rattle.stx_draft.specs.declared.schema.Leaf.{Leaf}
-use Rattle.stx_draft.specs.declared.schema.Shape.{Shape}
+use Rattle.stx_walk.specs.declared.schema.Field.{Field}
+use Rattle.stx_walk.specs.declared.schema.Kind.{Kind}
+use Rattle.stx_walk.specs.declared.schema.Leaf.{Leaf}
+use Rattle.stx_walk.specs.declared.schema.Shape.{Shape}
 use Rattle.stx_refusals.specs.Faults.{under, entry, refused, unless, count_stage}
-use Rattle.stx_draft.specs.Schema.{Key, key_of, keys_of, leaf_stage}
-use Rattle.stx_draft.specs.Walk.{TableWalk, count, missing, each_item, entry_faults, value_faults, found_faults, key_faults, is_known, key_text, unknown_faults, table_faults, walk_within, walk}
+use Rattle.stx_walk.specs.Schema.{Key, key_of, keys_of, leaf_stage}
+use Rattle.stx_walk.specs.Walk.{TableWalk, count, missing, each_item, entry_faults, value_faults, found_faults, key_faults, is_known, key_text, unknown_faults, table_faults, walk_within, walk}
 
 -- ---- the ends of loops
 

@@ -3,8 +3,8 @@ use Rattle.std.proofs.Common.{rules, tests, ◌∙◌}
 use Rattle.std.proofs.lemmas.Iterator.{YieldsList-from_slice}
 use Rattle.std.proofs.lemmas.Iterator.Search.{any_from_yields_List}
 use Rattle.std.specs.Str.{bytes_eq}
-use Rattle.stx_draft.proofs.WalkLaws.{any_field}
-use Rattle.stx_draft.proofs.walk.is_known.Goals as goal
+use Rattle.stx_walk.proofs.WalkLaws.{any_field}
+use Rattle.stx_walk.proofs.walk.is_known.Goals as goal
 
 pub returns : goal.returns
 returns c =

@@ -1,9 +1,9 @@
 -- The loop begins with all names of the table.
 use Rattle.std.proofs.Common.{◌++◌, map, ap, ◌∙◌}
-use Rattle.stx_draft.specs.Schema.{key_of}
-use Rattle.stx_draft.specs.inner.Places.{holder_path}
-use Rattle.stx_draft.proofs.WalkLaws.{unknown_names, unknown_by_names}
-use Rattle.stx_draft.proofs.walk.unknown_faults.Goals as goal
+use Rattle.stx_walk.specs.Schema.{key_of}
+use Rattle.stx_walk.specs.inner.Places.{holder_path}
+use Rattle.stx_walk.proofs.WalkLaws.{unknown_names, unknown_by_names}
+use Rattle.stx_walk.proofs.walk.unknown_faults.Goals as goal
 
 pub loop-key-init : goal.loop-key-init
 loop-key-init c =

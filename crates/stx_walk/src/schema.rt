@@ -1,6 +1,6 @@
 // The keys and types of a scenario file: the one description that all stages on single values share.
 ghost use Rattle.std.specs.Prelude.{◌≡◌, map};
-ghost use Rattle.stx_draft.specs.Schema.{key_of, root_keys, keys_of};
+ghost use Rattle.stx_walk.specs.Schema.{key_of, root_keys, keys_of};
 
 use stx_scenario::{
     MOST_BEANS, MOST_CALLS, MOST_CLASSES, MOST_CLIENTS, MOST_EVENTS, MOST_LISTENERS, MOST_METHODS,

@@ -3,7 +3,7 @@ ghost use Rattle.std.specs.Prelude.{◌≡◌, IfOk};
 ghost use Rattle.toml.specs.View.{view};
 ghost use Rattle.stx_refusals.specs.Faults.{unless as unless_passed, count_stage as count_stage_of};
 ghost use Rattle.stx_names.specs.Integers.{is_within as within_test};
-ghost use Rattle.stx_draft.specs.Schema.{text_stage as text_stage_of, number_stage as number_stage_of, flag_stage as flag_stage_of, leaf_stage as leaf_stage_of};
+ghost use Rattle.stx_walk.specs.Schema.{text_stage as text_stage_of, number_stage as number_stage_of, flag_stage as flag_stage_of, leaf_stage as leaf_stage_of};
 
 use crate::schema::Leaf;
 use stx_names::{is_class_name, is_name, mode_in, phase_in, propagation_in, rule_in, sentence_in};

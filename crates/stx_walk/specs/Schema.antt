@@ -3,10 +3,10 @@ use Rattle.std.specs.Prelude.{ℕ, ℤ, Bool, true, false, List, [], ◌∷◌, 
 use Rattle.std.specs.Option.{is_some}
 use Rattle.toml.specs.Data.{Data, string, integer, boolean}
 use Rattle.stx_refusals.specs.declared.fault.Stage.{Stage}
-use Rattle.stx_draft.specs.declared.schema.Shape.{Shape}
-use Rattle.stx_draft.specs.declared.schema.Leaf.{Leaf}
-use Rattle.stx_draft.specs.declared.schema.Kind.{Kind}
-use Rattle.stx_draft.specs.declared.schema.Field.{Field}
+use Rattle.stx_walk.specs.declared.schema.Shape.{Shape}
+use Rattle.stx_walk.specs.declared.schema.Leaf.{Leaf}
+use Rattle.stx_walk.specs.declared.schema.Kind.{Kind}
+use Rattle.stx_walk.specs.declared.schema.Field.{Field}
 use Rattle.stx_scenario.specs.declared.limits.TheConstants.{MOST_BEANS, MOST_CALLS, MOST_CLASSES, MOST_CLIENTS, MOST_EVENTS, MOST_LISTENERS, MOST_METHODS, MOST_ROWS, MOST_RULES, MOST_STATEMENTS, MOST_SYNCS, MOST_TURNS}
 use Rattle.stx_scenario.specs.Names.{is_name, is_class_name}
 use Rattle.stx_refusals.specs.Faults.{unless}

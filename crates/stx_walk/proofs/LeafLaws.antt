@@ -3,8 +3,8 @@ use Rattle.std.proofs.Common.{◌≡◌, ℕ, ℤ, true, false, List, Some, None
 use Rattle.std.specs.Option.{option_copied, is_some}
 use Rattle.toml.specs.Data.{Data, string, integer, float, boolean, datetime, array, table, as_str, as_integer, as_bool}
 use Rattle.stx_refusals.specs.declared.fault.Stage.{Stage}
-use Rattle.stx_draft.specs.declared.schema.Leaf.{Leaf}
-use Rattle.stx_draft.specs.Schema.{text_stage, number_stage, flag_stage, leaf_stage}
+use Rattle.stx_walk.specs.declared.schema.Leaf.{Leaf}
+use Rattle.stx_walk.specs.Schema.{text_stage, number_stage, flag_stage, leaf_stage}
 
 pub stage_of_text : (leaf : Leaf) (d : Data) (text : Bor (List ℕ)) → option_copied (Some text) ≡ as_str d → leaf_stage leaf d ≡ text_stage leaf text.now
 stage_of_text leaf (string t) text e = cc

@@ -6,11 +6,11 @@ use Rattle.std.specs.Str.{bytes_eq}
 use Rattle.toml.specs.Data.{Data, array, table, Items, no_items, item, Members, no_members, member, get_member}
 use Rattle.stx_refusals.specs.declared.fault.Fault.{Fault}
 use Rattle.stx_refusals.specs.declared.fault.Stage.{Stage}
-use Rattle.stx_draft.specs.declared.schema.Shape.{Shape}
-use Rattle.stx_draft.specs.declared.schema.Kind.{Kind}
+use Rattle.stx_walk.specs.declared.schema.Shape.{Shape}
+use Rattle.stx_walk.specs.declared.schema.Kind.{Kind}
 use Rattle.stx_scenario.specs.Names.{is_name}
 use Rattle.stx_refusals.specs.Faults.{under, entry, refused, unless, count_stage}
-use Rattle.stx_draft.specs.Schema.{Key, keys_of, root_keys, leaf_stage}
+use Rattle.stx_walk.specs.Schema.{Key, keys_of, root_keys, leaf_stage}
 
 -- what is refused in a table of some shape at some path
 abbrev pub TableWalk : Type 0

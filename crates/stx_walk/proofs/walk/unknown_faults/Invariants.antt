@@ -1,11 +1,11 @@
 -- What is found so far, and what the names that are left give, is the whole.
 use Rattle.std.proofs.Common.{◌≡◌, ◌++◌, map}
 use Rattle.toml.specs.View.{table_view}
-use Rattle.stx_draft.specs.Schema.{key_of}
-use Rattle.stx_draft.specs.Walk.{unknown_faults}
-use Rattle.stx_draft.specs.inner.Places.{holder_path}
-use Rattle.stx_draft.proofs.WalkLaws.{unknown_names}
-use Rattle.stx_draft.proofs.walk.unknown_faults.Given as goal
+use Rattle.stx_walk.specs.Schema.{key_of}
+use Rattle.stx_walk.specs.Walk.{unknown_faults}
+use Rattle.stx_walk.specs.inner.Places.{holder_path}
+use Rattle.stx_walk.proofs.WalkLaws.{unknown_names}
+use Rattle.stx_walk.proofs.walk.unknown_faults.Given as goal
 
 abbrev pub invariant-loop-key : goal.invariant-loop-key
 invariant-loop-key l =

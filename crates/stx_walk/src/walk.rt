@@ -2,11 +2,11 @@
 ghost use Rattle.std.specs.Prelude.{◌≡◌, ◌++◌, IfOk, OnOk, Some, map};
 ghost use Rattle.toml.specs.View.{view, table_view, items_view};
 ghost use Rattle.stx_refusals.specs.declared.fault.Stage.{Stage as StageData};
-ghost use Rattle.stx_draft.specs.declared.schema.Kind.{Kind as KindData};
+ghost use Rattle.stx_walk.specs.declared.schema.Kind.{Kind as KindData};
 ghost use Rattle.stx_refusals.specs.Faults.{refused, unless, under as path_under, entry as path_of_entry, count_stage as count_stage_of};
-ghost use Rattle.stx_draft.specs.inner.Places.{holder_path, place_path as path_of_place};
-ghost use Rattle.stx_draft.specs.Schema.{key_of, leaf_stage as stage_of};
-ghost use Rattle.stx_draft.specs.Walk.{walk, missing, each_item, entry_faults as faults_of_entry, value_faults as faults_of_value, key_faults as faults_of_key, key_text as text_of_key, is_known as known_test, unknown_faults as unknown_of, table_faults as faults_of_table, document_faults as faults_of_document};
+ghost use Rattle.stx_walk.specs.inner.Places.{holder_path, place_path as path_of_place};
+ghost use Rattle.stx_walk.specs.Schema.{key_of, leaf_stage as stage_of};
+ghost use Rattle.stx_walk.specs.Walk.{walk, missing, each_item, entry_faults as faults_of_entry, value_faults as faults_of_value, key_faults as faults_of_key, key_text as text_of_key, is_known as known_test, unknown_faults as unknown_of, table_faults as faults_of_table, document_faults as faults_of_document};
 
 use crate::leaf::{count_stage, leaf_stage};
 use crate::place::{Holder, Place, place_path};

@@ -1,6 +1,6 @@
 // Where values stand in a document. The text of a path is made where it is wanted, which is seldom.
 ghost use Rattle.std.specs.Prelude.{◌≡◌, IfOk};
-ghost use Rattle.stx_draft.specs.inner.Places.{holder_path as path_of_holder, place_path as path_of_place};
+ghost use Rattle.stx_walk.specs.inner.Places.{holder_path as path_of_holder, place_path as path_of_place};
 
 use std::alloc::Global;
 use stx_refusals::{Argument, entry, under};

@@ -1,0 +1,3 @@
+pub mod Schema
+pub mod Walk
+pub mod inner
