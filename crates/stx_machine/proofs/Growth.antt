@@ -1,6 +1,5 @@
 -- What is left of a script begins with the lines that were said; and where a machine waits for a shared call, it stops there.
-use Rattle.std.proofs.Common.{◌≡◌, ◌∙◌, ◌+◌, ◌-◌, ◌==◌, ◌<◌, ◌≤◌, ◌∷◌, [], ℕ, Bool, true, false, List, length, Option, Some, None, refl, sym, ap, arith, eq-eqb, eqb-true, length-append}
-use Rattle.std.proofs.lemmas.Bool.{false≢true}
+use Rattle.std.proofs.Common.{◌≡◌, ◌∙◌, ◌+◌, ◌∷◌, [], ℕ, Bool, false, List, Option, Some, None, refl, ap}
 use Rattle.std.specs.Prelude.{drop, slice_get, unwrap_or}
 use Rattle.std.specs.Option.{option_map}
 use Rattle.stx_scenario.specs.declared.numbers.ClassNo.{ClassNo}
@@ -40,7 +39,7 @@ use Rattle.stx_machine.specs.declared.stage.Place.{Place}
 use Rattle.stx_machine.specs.declared.stage.Stage.{Stage}
 use Rattle.stx_machine.specs.declared.stage.Then.{Then}
 use Rattle.stx_machine.specs.declared.tokens.Tokens.{Tokens}
-use Rattle.stx_machine.specs.Machine.{Call, Goes, Moves, Says, Waits, Shrinks, accesses, attribute_of, begun, after_round, call_after, caller_rank, calls_at, completes, connects, course_after, does, falls, frame_after, has_failed, in_round, inside, last_told, later_calls, later_deeds, left, of_call, of_top, opened, phase_after, piece, pointed, publication_of, rest_after, rest_of, unwound, resumes_call, round_after, rounds_call, row_access, run, scope_of, stack, state_at, statements, stops, tells, tells_resumed, thrown_of, told_after, untold, want_at, want_of, whole_round}
+use Rattle.stx_machine.specs.Machine.{Call, accesses, attribute_of, begun, after_round, call_after, caller_rank, calls_at, completes, connects, course_after, does, falls, frame_after, has_failed, in_round, inside, last_told, later_calls, later_deeds, of_call, of_top, opened, phase_after, piece, pointed, publication_of, rest_after, rest_of, unwound, resumes_call, round_after, rounds_call, row_access, run, scope_of, stack, state_at, statements, stops, tells, tells_resumed, thrown_of, told_after, untold, want_at, want_of, whole_round, onward}
 use Rattle.stx_machine.specs.Sound.{CallCompletes, CallOpens, CallPoints, IsSound, Standing, StageFits, standing_of}
 
 -- ---- accesses
@@ -371,6 +370,6 @@ pub run_stops : (S : Scenario) (n : ℕ) (m : Machine) (tokens : Tokens) → IsS
     → run S n m [] [] ≡ Stops (want_of m.stage) (state_at m [] [])
 run_stops S n m tokens sound waits going =
     let st = state_at m [] [] in
-    ap (λ r. later_calls S n m.top (unwound S (stack m.frames) r))
+    ap (onward S n m)
     (piece_stops S m.lines.items st.context m.local (stack m.frames) m.stage m.context sound.stage waits going)
     ∙ ap (later_calls S n m.top) (resume_stops S (stack m.frames) (want_of m.stage) st)

@@ -1,7 +1,6 @@
 -- What always holds of a machine: what each call under way has of the context, and what the client holds.
-use Rattle.std.specs.Prelude.{◌≡◌, ℕ, zero, suc, ◌-◌, ◌^◌, ◌<◌, ◌≤◌, Bool, true, false, ◌&&◌, ◌||◌, not, List, [], ◌∷◌, length, map, Option, Some, None, IsTrue, IsSome, ⊤, slice_get}
+use Rattle.std.specs.Prelude.{◌≡◌, ℕ, zero, suc, ◌-◌, ◌^◌, ◌<◌, ◌≤◌, Bool, true, false, ◌&&◌, ◌||◌, not, List, [], ◌∷◌, length, map, Option, Some, None, IsTrue, IsSome, ⊤}
 use Rattle.std.specs.Option.{is_some}
-use Rattle.stx_scenario.specs.declared.scenario.Stmt.{Stmt}
 use Rattle.stx_base.specs.Weight.{rank}
 use Rattle.stx_scenario.specs.declared.numbers.ClassNo.{ClassNo}
 use Rattle.stx_scenario.specs.declared.numbers.MethodNo.{MethodNo}
@@ -16,9 +15,9 @@ use Rattle.stx_base.specs.Attributes.{attribute}
 use Rattle.stx_base.specs.Limits.{most_calls}
 use Rattle.stx_base.specs.declared.manager.Round.{Round}
 use Rattle.std.specs.List.{AllByRecursion}
-use Rattle.stx_model.specs.Below.{DeedBelow, ListenerBelow, RegisteredBelow, SyncBelow}
+use Rattle.stx_model.specs.Below.{DeedBelow, ListenerBelow, RegisteredBelow}
 use Rattle.stx_model.specs.Contexts.{Registration, registered}
-use Rattle.stx_model.specs.Listeners.{Deed, deeds}
+use Rattle.stx_model.specs.Listeners.{Deed}
 use Rattle.stx_model.specs.Ending.{completion_refused}
 use Rattle.stx_conn.specs.Bindings.{Binding}
 use Rattle.stx_context.specs.Carrying.{Carried, bare, context_of}
@@ -34,7 +33,7 @@ use Rattle.stx_machine.specs.declared.machine.Machine.{Machine}
 use Rattle.stx_machine.specs.declared.stage.Place.{Place}
 use Rattle.stx_machine.specs.declared.stage.Stage.{Stage}
 use Rattle.stx_machine.specs.declared.tokens.Tokens.{Tokens}
-use Rattle.stx_machine.specs.Machine.{Call, IsClass, IsIntercepting, caller_rank, later_deeds, publication_of, rest_of, stack}
+use Rattle.stx_machine.specs.Machine.{Call, IsClass, caller_rank, later_deeds, publication_of, rest_of, stack}
 
 -- ---- tokens
 
