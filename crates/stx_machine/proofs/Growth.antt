@@ -39,9 +39,9 @@ use Rattle.stx_machine.specs.declared.stage.Place.{Place}
 use Rattle.stx_machine.specs.declared.stage.Stage.{Stage}
 use Rattle.stx_machine.specs.declared.stage.Then.{Then}
 use Rattle.stx_machine.specs.declared.tokens.Tokens.{Tokens}
-use Rattle.stx_machine.specs.Machine.{Call, OnTop, accesses, attribute_of, begun, after_round, call_after, caller_rank, calls_at, completes, connects, course_after, does, falls, frame_after, has_failed, in_round, inside, last_told, later_calls, later_deeds, of_call, of_top, opened, phase_after, piece, pointed, publication_of, rest_after, rest_of, unwound, resumes_call, round_after, rounds_call, row_access, run, scope_of, stack, state_at, statements, stops, tells, tells_resumed, thrown_of, told_after, untold, want_at, want_of, whole_round, onward}
+use Rattle.stx_machine.specs.Machine.{Call, Innermost, accesses, attribute_of, begun, after_round, call_after, caller_rank, calls_at, completes, connects, course_after, does, falls, frame_after, has_failed, in_round, inside, last_told, later_calls, later_deeds, of_call, of_top, opened, phase_after, piece, pointed, publication_of, rest_after, rest_of, unwound, resumes_call, round_after, rounds_call, row_access, run, scope_of, stack, state_at, statements, stops, tells, tells_resumed, thrown_of, told_after, untold, want_at, want_of, whole_round, onward}
 use Rattle.stx_machine.specs.Sound.{IsSound, StageFits}
-use Rattle.stx_machine.proofs.Stacks.{on_top}
+use Rattle.stx_machine.proofs.Stacks.{each_innermost}
 
 -- ---- accesses
 
@@ -289,8 +289,8 @@ module _ (S : Scenario) (lines : List Line) (context : Context) (local : Option 
   here : State
   here = still lines context local
 
-  top_stops : (P : MethodNo → ℕ → Option ClassNo → Interception → List Call → Type 0) (fs : List Call) → OnTop P fs → (stage : Stage) (w : Want) → AsksIn S stage w here → of_top S fs stage here ≡ Stops w here
-  top_stops P fs is stage w asks = on_top P (λ fs. of_top S fs stage here ≡ Stops w here) (λ m place catch i fs held. asks m i) fs is
+  top_stops : (P : MethodNo → ℕ → Option ClassNo → Interception → List Call → Type 0) (fs : List Call) → Innermost P fs → (stage : Stage) (w : Want) → AsksIn S stage w here → of_top S fs stage here ≡ Stops w here
+  top_stops P fs is stage w asks = each_innermost P (λ fs. of_top S fs stage here ≡ Stops w here) (λ m place catch i fs held. asks m i) fs is
 
   begins_stops : (c : ℕ) → AsksIn S (Stage.Beginning c) Want.Begin here
   unfolding begins here

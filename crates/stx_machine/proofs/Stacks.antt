@@ -22,7 +22,7 @@ use Rattle.stx_machine.specs.Sound.{Standing, OpensIn, PointsIn, RunsIn}
 use Rattle.stx_machine.specs.declared.machine.Machine.{Machine}
 use Rattle.stx_machine.specs.declared.stage.Stage.{Stage}
 use Rattle.stx_scenario.specs.declared.scenario.Scenario.{Scenario}
-use Rattle.stx_machine.specs.Machine.{Call, IsPushed, HasTransaction, OnTop, stack, unwound, frame_after, piece, state_with, context_at, later_calls, run}
+use Rattle.stx_machine.specs.Machine.{Call, IsPushed, HasTransaction, Innermost, stack, unwound, frame_after, piece, state_with, context_at, later_calls, run}
 
 -- a call on top
 pub pushed : (old new : Room Call) (f : Call) → new.items ≡ old.items ++ f ∷ [] → stack new ≡ f ∷ stack old
@@ -68,14 +68,14 @@ none_left (f ∷ fs) is = by_place (slice_get_cases (f ∷ fs) (length fs)).1
     by_place (inr (past, none)) = absurd (omega (arith, past))
 
 -- what holds with each intercepted call on top
-pub on_top : (P : MethodNo → ℕ → Option ClassNo → Interception → List Call → Type 0) (Q : List Call → Type 0)
+pub each_innermost : (P : MethodNo → ℕ → Option ClassNo → Interception → List Call → Type 0) (Q : List Call → Type 0)
     → ((m : MethodNo) (place : ℕ) (catch : Option ClassNo) (i : Interception) (fs : List Call) → P m place catch i fs → Q (Frame.Body m place catch (Some i) ∷ fs))
-    → (fs : List Call) → OnTop P fs → Q fs
-on_top P Q holds (Frame.Body m place catch (Some i) ∷ fs) is = holds m place catch i fs is
-on_top P Q holds (Frame.Body m place catch None ∷ fs) is = absurd is
-on_top P Q holds (Frame.Round round todo at place x ∷ fs) is = absurd is
-on_top P Q holds (Frame.Now listener place ∷ fs) is = absurd is
-on_top P Q holds [] is = absurd is
+    → (fs : List Call) → Innermost P fs → Q fs
+each_innermost P Q holds (Frame.Body m place catch (Some i) ∷ fs) is = holds m place catch i fs is
+each_innermost P Q holds (Frame.Body m place catch None ∷ fs) is = absurd is
+each_innermost P Q holds (Frame.Round round todo at place x ∷ fs) is = absurd is
+each_innermost P Q holds (Frame.Now listener place ∷ fs) is = absurd is
+each_innermost P Q holds [] is = absurd is
 
 -- ---- phases
 

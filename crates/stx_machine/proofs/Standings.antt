@@ -24,7 +24,7 @@ use Rattle.stx_scenario.specs.declared.numbers.ClassNo.{ClassNo}
 use Rattle.stx_machine.specs.Machine.{Call, round_in, left_in, left_of, IsPushed, stack, caller_rank}
 use Rattle.stx_machine.specs.Sound.{Bond, IsIntercepted, due_after, Unbound, Runs, Ended, CallPoints, CallsRun, IsBody, IsEarly, IsSound, Standing, StageFits, below_rest, below_scope, bond_of, RoundsIn, RunsIn, Shelters, below_phase, below_round, due_in, due_told, ends_after, ends_syncs, has_ended, has_own_of, has_point, is_due, is_last, is_point, is_resumption, is_unbound, nothing, one_less, one_more, points_of, releases, runs, standing_of, standing_under, without_own}
 use Rattle.stx_machine.proofs.Endings.{each_round}
-use Rattle.stx_machine.proofs.Stacks.{on_top, pushed, runs_only}
+use Rattle.stx_machine.proofs.Stacks.{each_innermost, pushed, runs_only}
 
 -- ---- the last action
 
@@ -260,7 +260,7 @@ points_low S standing (Frame.Now listener place ∷ fs) calls = points_low S sta
 -- where the innermost call waits for its savepoint
 pub points_before : (S : Scenario) (standing : Standing) (fs : List Call) → CallPoints S standing fs → points_of standing.bond ≤ 65
 points_before S standing fs points =
-    on_top _ (λ _. points_of standing.bond ≤ 65) (λ m place catch i below is. omega (arith, points_low S standing below is.5)) fs points
+    each_innermost _ (λ _. points_of standing.bond ≤ 65) (λ m place catch i below is. omega (arith, points_low S standing below is.5)) fs points
 
 inactive_of : (syncs : Option Registrations) → option_map (λ r. r.list) syncs ≡ None → not (is_some syncs) ≡ true
 inactive_of None is = refl

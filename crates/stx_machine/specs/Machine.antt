@@ -151,9 +151,9 @@ abbrev pub stack : Room Call → List Call
 stack frames = reverse frames.items
 
 -- the innermost call is an intercepted one, of which this holds
-abbrev pub OnTop : (MethodNo → ℕ → Option ClassNo → Interception → List Call → Type 0) → List Call → Type 0
-OnTop P (Frame.Body m place catch (Some i) ∷ fs) = P m place catch i fs
-OnTop P _ = ⊥
+abbrev pub Innermost : (MethodNo → ℕ → Option ClassNo → Interception → List Call → Type 0) → List Call → Type 0
+Innermost P (Frame.Body m place catch (Some i) ∷ fs) = P m place catch i fs
+Innermost P _ = ⊥
 
 -- the rank of the innermost method; a client is above all
 abbrev pub caller_rank : Scenario → List Call → ℕ
@@ -652,7 +652,7 @@ IsResuming _ = ⊥
 
 -- the innermost call is an intercepted one
 abbrev pub IsIntercepting : List Call → Type 0
-IsIntercepting = OnTop (λ m place catch i fs. ⊤)
+IsIntercepting = Innermost (λ m place catch i fs. ⊤)
 
 -- what these actions of a call's completion are to its caller
 abbrev pub acts_of : Scenario → Intercepted → List Action → Option ClassNo → Meaning
@@ -685,7 +685,7 @@ completes_of S call e x st = finally (completes_so S (inside S call.method) (sco
 
 -- the innermost call is one for which what was suspended is carried again: it completes, or was refused
 abbrev pub ResumesOn : List Call → Type 0
-ResumesOn = OnTop (λ m place catch i fs. IsResuming i.phase)
+ResumesOn = Innermost (λ m place catch i fs. IsResuming i.phase)
 
 -- the rules' line, where the body threw
 pub record Rules (S : Scenario) (rules : List Rule) (x : Option ClassNo) (before after : Machine) : Type 0 where

@@ -33,7 +33,7 @@ use Rattle.stx_machine.specs.declared.machine.Machine.{Machine}
 use Rattle.stx_machine.specs.declared.stage.Place.{Place}
 use Rattle.stx_machine.specs.declared.stage.Stage.{Stage}
 use Rattle.stx_machine.specs.declared.tokens.Tokens.{Tokens}
-use Rattle.stx_machine.specs.Machine.{Call, IsClass, OnTop, caller_rank, later_deeds, publication_of, rest_of, stack}
+use Rattle.stx_machine.specs.Machine.{Call, IsClass, Innermost, caller_rank, later_deeds, publication_of, rest_of, stack}
 
 -- ---- tokens
 
@@ -343,37 +343,37 @@ CallsRun S standing _ = ⊥
 -- the innermost call waits for its transaction
 abbrev pub CallOpens : Scenario → List Call → Type 0
 CallOpens S =
-    OnTop (λ m place catch i fs.
+    Innermost (λ m place catch i fs.
     IsCall S (caller_rank S fs) m catch × (place ≡ 0) × IsSome (attribute S m) × OpensIn i i.phase × CallsRun S (standing_under i.scope.suspended nothing) fs)
 
 -- or for its savepoint
 abbrev pub CallPoints : Scenario → Standing → List Call → Type 0
 CallPoints S standing =
-    OnTop (λ m place catch i fs.
+    Innermost (λ m place catch i fs.
     IsCall S (caller_rank S fs) m catch × (place ≡ 0) × IsSome (attribute S m) × PointsIn i i.phase × IsTrue (not (is_unbound standing.bond)) × CallsRun S standing fs)
 
 -- the innermost call completes
 abbrev pub CallCompletes : Scenario → Standing → List Call → Type 0
 CallCompletes S standing =
-    OnTop (λ m place catch i fs.
+    Innermost (λ m place catch i fs.
     IsCall S (caller_rank S fs) m catch × IsIntercepted S m (owns_in i.scope i.phase) standing.syncs × CompletesIn S standing i i.phase
     × CallsRun S (below_rest i.scope (rest_of i.phase) standing) fs)
 
 -- a round of the innermost call begins
 abbrev pub CallRounds : Scenario → Standing → List Call → Type 0
 CallRounds S standing =
-    OnTop (λ m place catch i fs.
+    Innermost (λ m place catch i fs.
     IsCall S (caller_rank S fs) m catch × IsIntercepted S m (owns_in i.scope i.phase) standing.syncs × IsTrue i.scope.owns × BeginsRound S standing i i.phase
     × CallsRun S (below_phase i.scope i.phase standing) fs)
 
 -- what was suspended for the innermost call is carried again
 abbrev pub CallResumes : Scenario → Standing → List Call → Type 0
 CallResumes S standing =
-    OnTop (λ m place catch i fs. IsCall S (caller_rank S fs) m catch × IsSome (attribute S m) × ResumesIn S i i.phase × CallsRun S standing fs)
+    Innermost (λ m place catch i fs. IsCall S (caller_rank S fs) m catch × IsSome (attribute S m) × ResumesIn S i i.phase × CallsRun S standing fs)
 
 -- after the connection is given back, what was suspended is resumed
 abbrev pub GivesLast : List Call → Type 0
-GivesLast = OnTop (λ m place catch i fs. IsTrue (is_resumption (rest_of i.phase)) × IsSome i.scope.suspended)
+GivesLast = Innermost (λ m place catch i fs. IsTrue (is_resumption (rest_of i.phase)) × IsSome i.scope.suspended)
 
 -- ---- the whole
 
