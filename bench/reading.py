@@ -1,9 +1,10 @@
 #!/usr/bin/env python3
-"""Times how long the built program takes to read and check a valid file of nearly the greatest size, and Python's tomllib to
-parse it alone: the best of five runs of each, which take turns.
+"""Times how long the built program takes to read and check valid files of nearly the greatest size, and Python's tomllib to
+parse them alone: the best of RUNS runs of each, five unless said, which take turns.
 
-  bench/reading.py [PROGRAM]
+  bench/reading.py [PROGRAM [RUNS]]
 """
+import platform
 import subprocess
 import sys
 import tempfile
@@ -12,7 +13,6 @@ import tomllib
 from pathlib import Path
 
 HERE = Path(__file__).resolve().parent
-RUNS = 5
 
 
 def timed(work):
@@ -21,20 +21,25 @@ def timed(work):
     return time.perf_counter() - start
 
 
-def main():
-    program = sys.argv[1] if len(sys.argv) > 1 else HERE.parent / "crates" / "springtx" / "out" / "springtx"
-    text = subprocess.run([sys.executable, HERE / "scenarios.py", "reading"], stdout=subprocess.PIPE, check=True).stdout
-    words = [str(program), "--do", "check"]
+def compare(program, runs, kind):
+    text = subprocess.run([sys.executable, HERE / "scenarios.py", kind], stdout=subprocess.PIPE, check=True).stdout
     checked, parsed = [], []
     with tempfile.TemporaryFile() as file:
         file.write(text)
         file.flush()
-        for _ in range(RUNS):
+        for _ in range(runs):
             file.seek(0)
-            checked.append(timed(lambda: subprocess.run(words, stdin=file, stdout=subprocess.DEVNULL, check=True)))
+            checked.append(timed(lambda: subprocess.run([program, "--do", "check"], stdin=file, stdout=subprocess.DEVNULL, check=True)))
             parsed.append(timed(lambda: tomllib.loads(text.decode())))
-    print(f"{len(text)} bytes: read and checked in {min(checked):.3f} s, parsed by tomllib in {min(parsed):.3f} s, "
-          f"{min(parsed) / min(checked):.1f} times as long")
+    print(f"{kind}, {len(text)} bytes: read and checked in {min(checked):.4f} s, parsed by tomllib of Python "
+          f"{platform.python_version()} in {min(parsed):.4f} s, {min(parsed) / min(checked):.1f} times as long")
+
+
+def main():
+    program = sys.argv[1] if len(sys.argv) > 1 else str(HERE.parent / "crates" / "springtx" / "out" / "springtx")
+    runs = int(sys.argv[2]) if len(sys.argv) > 2 else 5
+    for kind in ("reading", "dense"):
+        compare(program, runs, kind)
 
 
 if __name__ == "__main__":

@@ -7,7 +7,9 @@
   load N           one client with N calls, each of 250 calls inside it that make 198 reads each: the shape of a run of transactions
   holder ROWS SHORT   the last client writes ROWS rows 10,000 times and stays in its transaction, while another one makes SHORT
                    short transactions
-  reading          a valid file of nearly the greatest size: 10,000 rows and 1,000 methods within 1,048,576 bytes
+  reading          a valid file of nearly the greatest size, laid out as people do: 10,000 rows and 1,000 methods with 31
+                   statements each, within 1,048,576 bytes
+  dense            the same with each table on a line, short names, and as many statements as then fit: 57,584
   rules            1,000 methods with an attribute over nearly 1,000 classes: about a million lines of `--do rules`
   calls DEPTH N    one client with N calls of an empty method that joins, and as many of one that runs without a transaction,
                    each under DEPTH calls that are open; three of a thousand make a shared call
@@ -74,7 +76,23 @@ def holder(rows, short):
     print(']\nclients = [{calls=["b.all"]},{calls=["b.hold"]}]')
 
 
+def written(text):
+    assert len(text) <= LIMIT
+    sys.stdout.write(text)
+
+
 def reading():
+    rows, methods, body = 10_000, 1_000, 31
+    random.seed(rows)
+    text = "settings = { pool = 8 }\n\n[[beans]]\nname = \"b\"\n\n"
+    text += "".join(f'[[rows]]\nname = "row_{row:04}"\nvalue = {row}\n\n' for row in range(rows))
+    for method in range(methods):
+        named = [f"row_{random.randrange(rows):04}" for _ in range(body)]
+        text += f'[[methods]]\nbean = "b"\nname = "m{method}"\ntx = {{}}\nbody = [{statements_of(named)}]\n\n'
+    written(text + '[[clients]]\ncalls = ["b.m0"]\n')
+
+
+def dense():
     head = "rows = [" + ",".join(f'{{name="r{row}",value={row}}}' for row in range(10_000)) + "]\n"
     head += 'beans = [{name="b"}]\n'
     tail = 'clients = [{calls=["b.m0"]}]\n'
@@ -92,9 +110,7 @@ def reading():
             size += len(statement) + 1
             statements.append(statement)
         methods.append(start + ",".join(statements) + "]},\n")
-    text = head + "methods = [\n" + "".join(methods) + "]\n" + tail
-    assert len(text) <= LIMIT
-    sys.stdout.write(text)
+    written(head + "methods = [\n" + "".join(methods) + "]\n" + tail)
 
 
 def rules():
@@ -130,4 +146,4 @@ def calls(depth, count):
 
 if __name__ == "__main__":
     kind, *numbers = sys.argv[1:]
-    {"clients": clients, "turns": turns, "load": load, "holder": holder, "reading": reading, "rules": rules, "calls": calls}[kind](*map(int, numbers))
+    {"clients": clients, "turns": turns, "load": load, "holder": holder, "reading": reading, "dense": dense, "rules": rules, "calls": calls}[kind](*map(int, numbers))
