@@ -10,9 +10,9 @@ use Rattle.stx_refusals.specs.declared.fault.ReadFault.{ReadFault}
 use Rattle.stx_refusals.specs.declared.fault.ReadFault.TheVariants.{ClassCycle, ClassDepth}
 use Rattle.stx_refusals.specs.declared.fault.Stage.TheVariants.{UnknownRef}
 use Rattle.stx_refusals.specs.Faults.{first_at, first_some}
-use Rattle.stx_judge.specs.Judge.{judged, scenario_faults, class_cycle, class_depth, numbered_class}
+use Rattle.stx_judge.specs.Judge.{judged, scenario_faults, class_cycle, class_depth, numbered_class, place_stages, class_stages, call_stages, linked_stages}
 use Rattle.stx_judge.specs.Calls.{call_cycle, call_depth, too_large}
-use Rattle.stx_judge.specs.Stages.{place_stages, class_stages, call_stages, linked_stages, place_refusal, class_refusal, callback_refusal, call_refusal, linked_refusal, looked_up}
+use Rattle.stx_judge.specs.Stages.{place_refusal, class_refusal, callback_refusal, call_refusal, linked_refusal, looked_up}
 use Rattle.stx_judge.specs.Laws.{ValidIsInOrder}
 use Rattle.stx_refusals.proofs.QuietLaws.{some_none, mapped_none}
 use Rattle.stx_judge.proofs.OrderLaws.{accepted_places, accepted_callbacks, accepted_range}
