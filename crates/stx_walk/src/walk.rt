@@ -1,14 +1,13 @@
 // The walk over a document: what the stages on single places refuse in it, in walk order.
-ghost use Rattle.std.specs.Prelude.{◌≡◌, ◌++◌, IfOk, OnOk, Some, map};
+ghost use Rattle.std.specs.Prelude.{◌≡◌, ◌++◌, IfOk, OnOk, map};
 ghost use Rattle.toml.specs.View.{view, table_view, items_view};
-ghost use Rattle.stx_refusals.specs.declared.fault.Stage.{Stage as StageData};
 ghost use Rattle.stx_walk.specs.declared.schema.Kind.{Kind as KindData};
-ghost use Rattle.stx_refusals.specs.Faults.{refused, unless, under as path_under, entry as path_of_entry, count_stage as count_stage_of};
+ghost use Rattle.stx_refusals.specs.Faults.{refused, entry as path_of_entry};
 ghost use Rattle.stx_walk.specs.inner.Places.{holder_path, place_path as path_of_place};
 ghost use Rattle.stx_walk.specs.Schema.{key_of, leaf_stage as stage_of};
 ghost use Rattle.stx_walk.specs.Walk.{walk, missing, each_item, entry_faults as faults_of_entry, value_faults as faults_of_value, key_faults as faults_of_key, key_text as text_of_key, is_known as known_test, unknown_faults as unknown_of, table_faults as faults_of_table, document_faults as faults_of_document};
 
-use crate::leaf::{count_stage, leaf_stage};
+use crate::leaf::{count_stage, leaf_stage, unless};
 use crate::place::{Holder, Place, place_path};
 use crate::schema::{Field, Kind, Leaf, Shape, fields_of, root_fields};
 use std::alloc::Global;
@@ -70,17 +69,8 @@ impl Findings {
         };
         match table.get(field.key) {
             Some(value) => self.value_faults(field.kind, place, value),
-            None => self.missing_fault(field.required, place),
+            None => self.refuse_at(missing_stage(field.required), place),
         }
-    }
-
-    fn missing_fault(&mut self, required: bool, place: Place<'_>) -> Result<(), NoMemory>
-        ensures { OnOk result (self.new.faults ≡ self.old.faults ++ refused (path_of_place place.entry) (missing required)) }
-    {
-        if !required {
-            return Ok(());
-        }
-        self.refuse_at(Stage::Missing, place)
     }
 
     /// What is refused in the keys that the format doesn't have.
@@ -93,27 +83,15 @@ impl Findings {
         ensures { OnOk result (self.new.faults ≡ self.old.faults ++ unknown_of (map key_of fields.now) (holder_path holder.entry) (table_view table.now)) }
     {
         for key in table.keys() {
-            self.unknown_fault(fields, holder, key.as_str())?;
+            let key = key.as_str();
+            let place = Place {
+                holder,
+                key: Some(key_text(key)),
+            };
+            let passed = is_known(fields, key);
+            self.refuse_at(unless(passed, Stage::UnknownKey), place)?;
         }
         Ok(())
-    }
-
-    fn unknown_fault(
-        &mut self,
-        fields: &[Field],
-        holder: Holder<'_>,
-        key: &str,
-    ) -> Result<(), NoMemory>
-        ensures { OnOk result (self.new.faults ≡ self.old.faults ++ refused (path_under (holder_path holder.entry) (text_of_key key.now)) (unless (known_test (map key_of fields.now) key.now) StageData.UnknownKey)) }
-    {
-        if is_known(fields, key) {
-            return Ok(());
-        }
-        let place = Place {
-            holder,
-            key: Some(key_text(key)),
-        };
-        self.refuse_at(Stage::UnknownKey, place)
     }
 
     #[cycle(walk)]
@@ -121,7 +99,7 @@ impl Findings {
         ensures { OnOk result (self.new.faults ≡ self.old.faults ++ faults_of_value walk kind (path_of_place place.entry) (view value.now)) }
     {
         match kind {
-            Kind::Value(leaf) => self.leaf_faults(leaf, place, value),
+            Kind::Value(leaf) => self.refuse_at(leaf_stage(leaf, value), place),
             Kind::Values(leaf, most) => self.values_faults(leaf, most, place, value),
             Kind::Table(shape) => {
                 let path = place_path(self.alloc, place)?;
@@ -132,16 +110,6 @@ impl Findings {
                 self.tables_faults(shape, (least, most), place, value)
             }
         }
-    }
-
-    /// What is refused in a single value.
-    fn leaf_faults(&mut self, leaf: Leaf, place: Place<'_>, value: &Value) -> Result<(), NoMemory>
-        ensures { OnOk result (self.new.faults ≡ self.old.faults ++ refused (path_of_place place.entry) (stage_of leaf (view value.now))) }
-    {
-        let Some(stage) = leaf_stage(leaf, value) else {
-            return Ok(());
-        };
-        self.refuse_at(stage, place)
     }
 
     /// What is refused in a value that has to be an array of single values.
@@ -155,9 +123,9 @@ impl Findings {
         ensures { OnOk result (self.new.faults ≡ self.old.faults ++ faults_of_value walk (KindData.Values leaf most) (path_of_place place.entry) (view value.now)) }
     {
         let Some(items) = value.as_array() else {
-            return self.refuse_at(Stage::WrongType, place);
+            return self.refuse_at(Some(Stage::WrongType), place);
         };
-        self.count_fault((0, most), place, items.len())?;
+        self.refuse_at(count_stage(0, most, items.len()), place)?;
         let path = place_path(self.alloc, place)?;
         self.items_faults(leaf, path.as_str(), items)
     }
@@ -167,7 +135,7 @@ impl Findings {
     {
         for (at, item) in items.iter().enumerate() {
             let holder = Holder { path, at: Some(at) };
-            self.leaf_faults(leaf, Place { holder, key: None }, item)?;
+            self.refuse_at(leaf_stage(leaf, item), Place { holder, key: None })?;
         }
         Ok(())
     }
@@ -185,7 +153,7 @@ impl Findings {
     {
         match value {
             Value::Array(items) => {
-                self.count_fault(bounds, place, items.len())?;
+                self.refuse_at(count_stage(bounds.0, bounds.1, items.len()), place)?;
                 let path = place_path(self.alloc, place)?;
                 let path = path.as_str();
                 for (at, item) in items.iter().enumerate() {
@@ -193,7 +161,7 @@ impl Findings {
                 }
                 Ok(())
             }
-            _ => self.refuse_at(Stage::WrongType, place),
+            _ => self.refuse_at(Some(Stage::WrongType), place),
         }
     }
 
@@ -209,30 +177,26 @@ impl Findings {
     {
         match value {
             Value::Table(inner) => self.table_faults(fields_of(shape), holder, inner),
-            _ => self.refuse_at(Stage::WrongType, Place { holder, key: None }),
+            _ => self.refuse_at(Some(Stage::WrongType), Place { holder, key: None }),
         }
     }
 
-    fn count_fault(
-        &mut self,
-        bounds: (usize, usize),
-        place: Place<'_>,
-        count: usize,
-    ) -> Result<(), NoMemory>
-        ensures { OnOk result (self.new.faults ≡ self.old.faults ++ refused (path_of_place place.entry) (count_stage_of bounds.0 bounds.1 count)) }
+    /// Refuses a place, where there is a stage that does.
+    fn refuse_at(&mut self, stage: Option<Stage>, place: Place<'_>) -> Result<(), NoMemory>
+        ensures { OnOk result (self.new.faults ≡ self.old.faults ++ refused (path_of_place place.entry) stage) }
     {
-        match count_stage(bounds.0, bounds.1, count) {
-            Some(stage) => self.refuse_at(stage, place),
-            None => Ok(()),
-        }
-    }
-
-    fn refuse_at(&mut self, stage: Stage, place: Place<'_>) -> Result<(), NoMemory>
-        ensures { OnOk result (self.new.faults ≡ self.old.faults ++ refused (path_of_place place.entry) (Some stage)) }
-    {
+        let Some(stage) = stage else {
+            return Ok(());
+        };
         let path = place_path(self.alloc, place)?;
         refuse(&mut self.faults, stage, path)
     }
+}
+
+fn missing_stage(required: bool) -> Option<Stage>
+    ensures { result ≡ missing required }
+{
+    unless(!required, Stage::Missing)
 }
 
 fn is_known(fields: &[Field], key: &str) -> bool

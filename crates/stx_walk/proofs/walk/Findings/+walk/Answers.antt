@@ -26,7 +26,7 @@ field_faults-returns-in-None t c =
     let field = key_of c.args.field.now in
     let none : get_member field.name (table_view c.args.table.now) ≡ None
     = sym (table_get c.get.result field.name c.args.table.now.entries c.get.ensures.value) ∙ ap (λ r. option_map (λ x. view x.now) r) c.in-None.is in
-    rw (key_missing (holder_path c.args.holder) (table_view c.args.table.now) field none) c.missing_fault.ensures
+    rw (key_missing (holder_path c.args.holder) (table_view c.args.table.now) field none) (rw c.missing_stage.ensures at c.refuse_at.ensures)
 
 pub table_faults-returns : goal.table_faults-returns
 table_faults-returns t c =
@@ -41,5 +41,5 @@ pub tables_faults-loop-at-init : goal.tables_faults-loop-at-init
 tables_faults-loop-at-init t c =
     let items = c.deref-item-items.result.now in
     let many : c.len.result ≡ length items = c.len.ensures ∙ sym c.deref-item-items.ensures.len in
-    tables_begin (place_path c.args.place) c.len.result items c.count_fault.new.self.faults c.args.self.now.faults c.args.shape c.args.bounds.0 c.args.bounds.1 c.args.value.now c.in-Array.items c.in-Array.is
-    c.deref-item-items.ensures.value many c.in_ok-count_fault-in-Array.ensures
+    tables_begin (place_path c.args.place) c.len.result items c.refuse_at.new.self.faults c.args.self.now.faults c.args.shape c.args.bounds.0 c.args.bounds.1 c.args.value.now c.in-Array.items c.in-Array.is
+    c.deref-item-items.ensures.value many (rw c.count_stage.ensures at c.in_ok-refuse_at-in-Array.ensures)
