@@ -52,9 +52,6 @@ neither None b h = (refl, h)
 
 -- ---- where a group refuses, and where none does
 
-pub refused_place : (S : Scenario) (fault : ReadFault) → place_refusal S ≡ Some fault → judged S ≡ Some fault
-refused_place S fault place = judged_groups S ∙ ap (λ refusal. option_or refusal (linked_refusal S)) place
-
 pub passed_places : (S : Scenario) → place_refusal S ≡ None → judged S ≡ linked_refusal S
 passed_places S place = judged_groups S ∙ ap (λ refusal. option_or refusal (linked_refusal S)) place
 
