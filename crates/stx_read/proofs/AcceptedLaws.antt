@@ -5,7 +5,7 @@ use Rattle.std.proofs.lemmas.List.Elements.{All-nil, All-cons}
 use Rattle.std.proofs.lemmas.List.Concat.{flat_map-cons}
 use Rattle.std.specs.List.{All, flat_map, filter_map}
 use Rattle.std.specs.Option.{option_and_then, is_some}
-use Rattle.toml.specs.Data.{Data, string, integer, float, boolean, datetime, array, table, Items, no_items, item, Members, get_member, as_str, as_integer, as_array, as_table}
+use Rattle.toml.specs.Data.{Data, string, integer, boolean, array, table, Items, no_items, item, Members, get_member, as_str, as_integer, as_array, as_table}
 use Rattle.stx_scenario.specs.Names.{is_name, is_class_name}
 use Rattle.stx_names.specs.Integers.{is_pool, is_client}
 use Rattle.stx_names.specs.Sentences.{sentence_in, rule_in}

@@ -1,5 +1,5 @@
 // The text of a line: its words, its place where it has one, and a line feed.
-ghost use Rattle.std.specs.Prelude.{◌≡◌, ◌≢◌, ◌++◌, true, OnOk, OnErr, codes};
+ghost use Rattle.std.specs.Prelude.{◌≡◌, ◌≢◌, ◌++◌, OnOk, OnErr, codes};
 ghost use Rattle.std.specs.Fmt.{decimal, signed_decimal};
 ghost use Rattle.stx_base.specs.Lines as texts;
 ghost use Rattle.stx_base.specs.Lines.{OfNeither};

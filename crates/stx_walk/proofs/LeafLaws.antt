@@ -1,7 +1,7 @@
 -- What is refused in a single value, by what it is.
 use Rattle.std.proofs.Common.{◌≡◌, ℕ, ℤ, true, false, List, Some, None, Bor, refl}
 use Rattle.std.specs.Option.{option_copied, is_some}
-use Rattle.toml.specs.Data.{Data, string, integer, float, boolean, datetime, array, table, as_str, as_integer, as_bool}
+use Rattle.toml.specs.Data.{Data, string, integer, boolean, as_str, as_integer, as_bool}
 use Rattle.stx_refusals.specs.declared.fault.Stage.{Stage}
 use Rattle.stx_walk.specs.declared.schema.Leaf.{Leaf}
 use Rattle.stx_walk.specs.Schema.{text_stage, number_stage, flag_stage, leaf_stage}

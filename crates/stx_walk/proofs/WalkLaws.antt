@@ -5,7 +5,7 @@ use Rattle.std.proofs.lemmas.Bool.{and_parts, false≢true}
 use Rattle.std.specs.List.{flat_map, list_all, list_any}
 use Rattle.std.specs.Map.{keys_of as names_of}
 use Rattle.std.specs.Str.{bytes_eq}
-use Rattle.toml.specs.Data.{Data, Members, string, integer, float, boolean, datetime, array, table, as_array, get_member}
+use Rattle.toml.specs.Data.{Data, Members, array, table, as_array, get_member}
 use Rattle.toml.specs.View.{view, items_view, members_view, table_view}
 use Rattle.toml.specs.declared.value.Value.{Value}
 use Rattle.toml.specs.declared.value.Value.TheVariants.{Array, Table}
