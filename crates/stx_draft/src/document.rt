@@ -8,7 +8,7 @@ ghost use Rattle.stx_draft.specs.Document.{document_of, early_refusal as refusal
 use crate::declared_names::names_in;
 use std::alloc::{AllocError, Global};
 use stx_names::duplicate_among;
-use stx_refusals::{Fault, ReadFault, Stage, first_at};
+use stx_refusals::{Fault, ReadFault, Stage, first_among, first_at};
 use stx_scenario::NoMemory;
 use stx_walk::document_faults;
 use toml::Table;
@@ -52,22 +52,15 @@ pub fn refused_in(alloc: Global, root: &Table) -> Result<Option<ReadFault>, NoMe
 fn early_refusal(alloc: Global, faults: &[Fault]) -> Result<Option<ReadFault>, NoMemory>
     ensures { IfOk result (λ fault. fault ≡ refusal_before_duplicates faults.now) }
 {
-    if let Some(fault) = first_at(alloc, Stage::UnknownKey, faults)? {
-        return Ok(Some(fault));
-    }
-    if let Some(fault) = first_at(alloc, Stage::Missing, faults)? {
-        return Ok(Some(fault));
-    }
-    if let Some(fault) = first_at(alloc, Stage::WrongType, faults)? {
-        return Ok(Some(fault));
-    }
-    if let Some(fault) = first_at(alloc, Stage::BadName, faults)? {
-        return Ok(Some(fault));
-    }
-    if let Some(fault) = first_at(alloc, Stage::OutOfRange, faults)? {
-        return Ok(Some(fault));
-    }
-    first_at(alloc, Stage::TooMany, faults)
+    let stages = [
+        Stage::UnknownKey,
+        Stage::Missing,
+        Stage::WrongType,
+        Stage::BadName,
+        Stage::OutOfRange,
+        Stage::TooMany,
+    ];
+    first_among(alloc, &stages, faults)
 }
 
 /// The want of memory of which the library tells.

@@ -10,9 +10,9 @@ use Rattle.stx_refusals.specs.declared.fault.ReadFault.{ReadFault}
 use Rattle.stx_refusals.specs.declared.fault.ReadFault.TheVariants.{ClassCycle, ClassDepth}
 use Rattle.stx_refusals.specs.declared.fault.Stage.TheVariants.{UnknownRef}
 use Rattle.stx_refusals.specs.Faults.{first_at, first_some}
-use Rattle.stx_judge.specs.Judge.{judged, scenario_faults, class_cycle, class_depth, numbered_class}
+use Rattle.stx_judge.specs.Judge.{judged, scenario_faults, class_cycle, class_depth, numbered_class, place_stages, class_stages, call_stages, linked_stages}
 use Rattle.stx_judge.specs.Calls.{call_cycle, call_depth, too_large}
-use Rattle.stx_judge.specs.Stages.{place_stages, class_stages, call_stages, linked_stages, place_refusal, class_refusal, callback_refusal, call_refusal, linked_refusal, looked_up}
+use Rattle.stx_judge.specs.Stages.{place_refusal, class_refusal, callback_refusal, call_refusal, linked_refusal, looked_up}
 use Rattle.stx_judge.specs.Laws.{ValidIsInOrder}
 use Rattle.stx_refusals.proofs.QuietLaws.{some_none, mapped_none}
 use Rattle.stx_judge.proofs.OrderLaws.{accepted_places, accepted_callbacks, accepted_range}
@@ -51,9 +51,6 @@ neither (Some a) b h = absurd (none-some a (sym h))
 neither None b h = (refl, h)
 
 -- ---- where a group refuses, and where none does
-
-pub refused_place : (S : Scenario) (fault : ReadFault) → place_refusal S ≡ Some fault → judged S ≡ Some fault
-refused_place S fault place = judged_groups S ∙ ap (λ refusal. option_or refusal (linked_refusal S)) place
 
 pub passed_places : (S : Scenario) → place_refusal S ≡ None → judged S ≡ linked_refusal S
 passed_places S place = judged_groups S ∙ ap (λ refusal. option_or refusal (linked_refusal S)) place

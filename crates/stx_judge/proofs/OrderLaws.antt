@@ -23,10 +23,9 @@ use Rattle.stx_refusals.specs.Faults.{under, entry, refused, first_at, is_stage,
 use Rattle.stx_names.specs.Integers.{is_pool}
 use Rattle.stx_judge.specs.Judge
 use Rattle.stx_base.specs.Valid
-use Rattle.stx_names.specs.Duplicates.{duplicate_among, names_of}
 use Rattle.stx_judge.specs.Stages.{place_refusal, callback_refusal, PlacesQuiet}
 use Rattle.stx_base.specs.Valid.{AreKnown, BodyInOrder, CallbackInOrder, RuleInOrder, AttributeInOrder, TxInOrder, ClassInOrder, BeanInOrder, MethodInOrder, SyncInOrder, ListenerInOrder, CallsInOrder, PlacesInOrder, SyncAllowed, CallbacksAllowed}
-use Rattle.stx_refusals.proofs.QuietLaws.{Quiet, is_place, both_true, some_none, quiet_both, quiet_each, quiet_passed, quiet_array, quiet_first, quiet_many, places_quiet}
+use Rattle.stx_refusals.proofs.QuietLaws.{Quiet, is_place, both_true, none_at, quiet_both, quiet_each, quiet_passed, quiet_array, quiet_first, quiet_many, places_quiet}
 
 -- ---- bodies and attributes
 
@@ -142,44 +141,9 @@ places_order S q =
     let syncs = quiet_array (SyncInOrder S) 256 (length S.syncs) _ (Judge.sync_faults S) S.syncs refl (sync_order S) with_syncs.1 in
     let listeners = quiet_array (ListenerInOrder S) 256 (length S.listeners) _ (Judge.listener_faults S) S.listeners refl (listener_order S) with_listeners.1 in
     let clients = quiet_both _ _ with_clients.1 in
-    let some = clients_some _ _ clients.0 in
-    record {
-      few_events = events.few;
-      events = events.all;
-      few_turns = schedule.few;
-      turns = schedule.all;
-      connections = pool.0;
-      few_connections = pool.1;
-      few_values = rows.few;
-      rows = rows.all;
-      few_classes = classes.few;
-      classes = classes.all;
-      few_beans = beans.few;
-      beans = beans.all;
-      few_methods = methods.few;
-      methods = methods.all;
-      few_syncs = syncs.few;
-      syncs = syncs.all;
-      few_listeners = listeners.few;
-      listeners = listeners.all;
-      any_client = some.0;
-      few_clients = some.1;
-      clients = quiet_each (CallsInOrder S) (Judge.client_faults S) S.clients (calls_order S) clients.1;
-    }
-
--- no stage up to the look-up of names refuses anything
-pub accepted_places : (S : Scenario) → place_refusal S ≡ None → PlacesInOrder S
-accepted_places S accepted =
-    let names = some_none (first_at BadName (Judge.scenario_faults S)) _ accepted in
-    let ranges = some_none (first_at OutOfRange (Judge.scenario_faults S)) _ names.1 in
-    let counts = some_none (first_at TooMany (Judge.scenario_faults S)) _ ranges.1 in
-    let duplicates = some_none (duplicate_among (names_of S)) _ counts.1 in
-    let words = some_none (first_at BadWord (Judge.scenario_faults S)) _ duplicates.1 in
-    let references = some_none (first_at UnknownRef (Judge.scenario_faults S)) _ words.1 in
-    let faults = Judge.scenario_faults S in
-    places_order S (places_quiet faults
-    (quiet_first BadName faults names.0) (quiet_first OutOfRange faults ranges.0) (quiet_first TooMany faults counts.0)
-    (quiet_first BadWord faults words.0) (quiet_first UnknownRef faults references.0))
+    let some : (1 ≤ length S.clients) × (length S.clients ≤ 64) = clients_some _ _ clients.0 in
+    let calls : All (CallsInOrder S) S.clients = quiet_each (CallsInOrder S) (Judge.client_faults S) S.clients (calls_order S) clients.1 in
+    assumption (events, schedule, pool, rows, classes, beans, methods, syncs, listeners, some, calls)
 
 -- the stages on single places are quiet, and all that is named is there
 pub quiet_places : (S : Scenario) → PlacesQuiet S → first_at UnknownRef (Judge.scenario_faults S) ≡ None → PlacesInOrder S
@@ -188,6 +152,12 @@ quiet_places S quiet references =
     places_order S (places_quiet faults
     (quiet_first BadName faults quiet.names) (quiet_first OutOfRange faults quiet.ranges) (quiet_first TooMany faults quiet.counts)
     (quiet_first BadWord faults quiet.words) (quiet_first UnknownRef faults references))
+
+-- no stage up to the look-up of names refuses anything
+pub accepted_places : (S : Scenario) → place_refusal S ≡ None → PlacesInOrder S
+accepted_places S accepted =
+    let none = λ (n : ℕ). none_at n (Judge.place_stages S) accepted in
+    quiet_places S (record { names = none 0; ranges = none 1; counts = none 2; words = none 4 }) (none 5)
 
 -- ---- callbacks
 
@@ -235,45 +205,25 @@ statement_range S bean (Stmt.Call m x) known own = method_known S m (Valid.is_ca
 statement_range S bean (Stmt.This m x) known own = own_there S bean _ m.0 refl own
 statement_range S bean (Stmt.Publish e) known own = ltb-true e.0 (length S.events) known
 statement_range S bean (Stmt.Register s) known own = ltb-true s.0 (length S.syncs) known
-statement_range S bean (Stmt.Read k) known own = tt
-statement_range S bean (Stmt.Write k v) known own = tt
-statement_range S bean (Stmt.Erase k) known own = tt
-statement_range S bean (Stmt.Add k v) known own = tt
-statement_range S bean (Stmt.Need k v) known own = tt
-statement_range S bean (Stmt.Throw class) known own = tt
-statement_range S bean Stmt.Mark known own = tt
+statement_range S bean _ known own = tt
 
 before_commit_range : (S : Scenario) (s : Stmt) → Valid.allowed_before_commit S s ≡ true → CallbackInRange (length S.methods) s
 before_commit_range S (Stmt.Call m x) allowed = absurd (false≢true allowed)
 before_commit_range S (Stmt.This m x) allowed = absurd (false≢true allowed)
 before_commit_range S (Stmt.Publish e) allowed = absurd (false≢true allowed)
 before_commit_range S (Stmt.Register s) allowed = absurd (false≢true allowed)
-before_commit_range S (Stmt.Read k) allowed = tt
-before_commit_range S (Stmt.Write k v) allowed = tt
-before_commit_range S (Stmt.Erase k) allowed = tt
-before_commit_range S (Stmt.Add k v) allowed = tt
-before_commit_range S (Stmt.Need k v) allowed = tt
-before_commit_range S (Stmt.Throw class) allowed = tt
-before_commit_range S Stmt.Mark allowed = tt
+before_commit_range S _ allowed = tt
 
 around_range : (S : Scenario) (s : Stmt) → Valid.names_known S s ≡ true → Valid.allowed_around S s ≡ true → CallbackInRange (length S.methods) s
 around_range S (Stmt.Call m x) known allowed = method_known S m (Valid.is_catch S x) known
 around_range S (Stmt.This m x) known allowed = absurd (false≢true allowed)
 around_range S (Stmt.Publish e) known allowed = absurd (false≢true allowed)
 around_range S (Stmt.Register s) known allowed = absurd (false≢true allowed)
-around_range S (Stmt.Read k) known allowed = tt
-around_range S (Stmt.Write k v) known allowed = tt
-around_range S (Stmt.Erase k) known allowed = tt
-around_range S (Stmt.Add k v) known allowed = tt
-around_range S (Stmt.Need k v) known allowed = tt
-around_range S (Stmt.Throw class) known allowed = tt
-around_range S Stmt.Mark known allowed = tt
+around_range S _ known allowed = tt
 
 phase_range : (S : Scenario) (phase : Phase) (s : Stmt) → Valid.names_known S s ≡ true → Valid.allowed_in phase S s ≡ true → CallbackInRange (length S.methods) s
 phase_range S Phase.BeforeCommit s known allowed = before_commit_range S s allowed
-phase_range S Phase.AfterCommit s known allowed = around_range S s known allowed
-phase_range S Phase.AfterRollback s known allowed = around_range S s known allowed
-phase_range S Phase.AfterCompletion s known allowed = around_range S s known allowed
+phase_range S _ s known allowed = around_range S s known allowed
 
 around_all : (S : Scenario) (body : List Stmt) → CallbackInOrder S body → All (λ s. Valid.allowed_around S s ≡ true) body → All (CallbackInRange (length S.methods)) body
 around_all S body order allowed = λ k d within. around_range S _ (order.known k d within) (allowed k d within)

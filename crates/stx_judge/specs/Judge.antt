@@ -169,24 +169,32 @@ class_cycle S = option_map (λ n. ReadFault.ClassCycle (class_name S (numbered_c
 abbrev pub class_depth : Scenario → Option ReadFault
 class_depth S = option_map (λ n. ReadFault.ClassDepth (class_name S (numbered_class n))) (first_too_deep S.classes)
 
--- ---- the whole
+-- ---- the stages, one after the other
 
--- the first stage that refuses anything, at its first place
-unfoldable pub judged : Scenario → Option ReadFault
-judged S = first_some (
+-- names, numbers and words at single places, and what is named there
+abbrev pub place_stages : Scenario → List (Option ReadFault)
+place_stages S =
     first_at Stage.BadName (scenario_faults S)
     ∷ first_at Stage.OutOfRange (scenario_faults S)
     ∷ first_at Stage.TooMany (scenario_faults S)
     ∷ duplicate_among (names_of S)
     ∷ first_at Stage.BadWord (scenario_faults S)
     ∷ first_at Stage.UnknownRef (scenario_faults S)
-    ∷ class_cycle S
-    ∷ class_depth S
-    ∷ first_at Stage.CallbackBody (callback_faults S)
-    ∷ call_cycle S
-    ∷ call_depth S
-    ∷ too_large S
-    ∷ [])
+    ∷ []
+
+abbrev pub class_stages : Scenario → List (Option ReadFault)
+class_stages S = class_cycle S ∷ class_depth S ∷ []
+
+abbrev pub call_stages : Scenario → List (Option ReadFault)
+call_stages S = call_cycle S ∷ call_depth S ∷ too_large S ∷ []
+
+-- how classes, callbacks and calls hang together
+abbrev pub linked_stages : Scenario → List (Option ReadFault)
+linked_stages S = class_stages S ++ first_at Stage.CallbackBody (callback_faults S) ∷ call_stages S
+
+-- the first stage that refuses anything, at its first place
+unfoldable pub judged : Scenario → Option ReadFault
+judged S = first_some (place_stages S ++ linked_stages S)
 
 -- shaped, and refused by no stage
 pub record IsValid (S : Scenario) : Type 0 where

@@ -1,5 +1,6 @@
 // Whether a scenario that is a value is valid, and else why it isn't.
 ghost use Rattle.std.specs.Prelude.{◌≡◌, ◌≢◌, length, take, Some, None, IfOk, IfErr, OnOk};
+ghost use Rattle.std.specs.Option.{option_or};
 ghost use Rattle.stx_scenario.specs.BuiltIn.{built_in};
 ghost use Rattle.stx_scenario.specs.Memory.{no_memory};
 ghost use Rattle.stx_refusals.specs.declared.fault.ReadFault.{ReadFault as Fault};
@@ -36,11 +37,8 @@ pub fn judged(alloc: Global, scenario: &Scenario) -> Result<Option<ReadFault>, N
     requires { take (length built_in) scenario.now.classes ≡ built_in }
     ensures { IfOk result (λ fault. fault ≡ refusal_of scenario.now) }
 {
-    if let Some(fault) = place_fault(alloc, scenario)? {
-        return Ok(Some(fault));
-    }
-    let fault = linked_fault(alloc, scenario)?;
-    Ok(fault)
+    let fault = place_fault(alloc, scenario)?;
+    or_linked_fault(alloc, scenario, fault)
 }
 
 /// The refusal of a scenario whose single places are right: that of the stages from the look-up of names on.
@@ -49,11 +47,8 @@ pub fn looked_up_fault(alloc: Global, scenario: &Scenario) -> Result<Option<Read
     requires places { PlacesQuiet scenario.now }
     ensures { IfOk result (λ fault. fault ≡ looked_up scenario.now) }
 {
-    if let Some(fault) = unknown_reference(alloc, scenario)? {
-        return Ok(Some(fault));
-    }
-    let fault = linked_fault(alloc, scenario)?;
-    Ok(fault)
+    let fault = unknown_reference(alloc, scenario)?;
+    or_linked_fault(alloc, scenario, fault)
 }
 
 /// The first place that names nothing.
@@ -62,6 +57,22 @@ pub fn unknown_reference(alloc: Global, scenario: &Scenario) -> Result<Option<Re
 {
     let faults = scenario_faults(alloc, scenario)?;
     first_at(alloc, Stage::UnknownRef, faults.as_slice())
+}
+
+/// This refusal, or else that of the stages that come after single places.
+fn or_linked_fault(
+    alloc: Global,
+    scenario: &Scenario,
+    fault: Option<ReadFault>,
+) -> Result<Option<ReadFault>, NoMemory>
+    requires built_in { take (length built_in) scenario.now.classes ≡ built_in }
+    requires order { fault ≡ None → PlacesInOrder scenario.now }
+    ensures { IfOk result (λ first. first ≡ option_or fault (linked_refusal scenario.now)) }
+{
+    match fault {
+        Some(fault) => Ok(Some(fault)),
+        None => linked_fault(alloc, scenario),
+    }
 }
 
 /// The refusal of the stages that look at how classes, callbacks and calls hang together.

@@ -27,11 +27,7 @@ impl<'a> Parts<'a> {
         ensures scenario { result.scenario.now ≡ self.now.scenario.now }
         ensures path { result.path.now ≡ path.now }
     {
-        Place {
-            alloc: self.alloc,
-            scenario: self.scenario,
-            path,
-        }
+        Place::new(self.alloc, self.scenario, path)
     }
 }
 

@@ -32,6 +32,18 @@ struct MethodBody<'a, 'b> {
 }
 
 impl<'a, 'b> Place<'a, 'b> {
+    /// The table or the array at a path.
+    pub fn new(alloc: Global, scenario: &'a Scenario, path: &'b str) -> Self
+        ensures scenario { result.scenario.now ≡ scenario.now }
+        ensures path { result.path.now ≡ path.now }
+    {
+        Place {
+            alloc,
+            scenario,
+            path,
+        }
+    }
+
     /// Refuses the value under a key of the table, unless it passed.
     pub fn check_key(
         &self,
@@ -58,18 +70,6 @@ impl<'a, 'b> Place<'a, 'b> {
         check_entry(self.alloc, faults, self.path, at, passed, stage)
     }
 
-    /// Another table or array of the scenario.
-    fn place<'c>(&self, path: &'c str) -> Place<'a, 'c>
-        ensures scenario { result.scenario.now ≡ self.now.scenario.now }
-        ensures path { result.path.now ≡ path.now }
-    {
-        Place {
-            alloc: self.alloc,
-            scenario: self.scenario,
-            path,
-        }
-    }
-
     /// The name of the table.
     pub fn check_name(&self, faults: &mut Faults, name: &Name) -> Result<(), NoMemory>
         ensures { OnOk result (faults.new ≡ faults.old ++ name_faults self.now.path.now name.now) }
@@ -89,15 +89,9 @@ impl<'a, 'b> Place<'a, 'b> {
         let path = under(self.alloc, self.path, "tx")?;
         let path = under(self.alloc, path.as_str(), "rules")?;
         let path = path.as_str();
+        let array = Place::new(self.alloc, self.scenario, path);
         let rules = tx.rules.as_slice();
-        check_array(
-            self.alloc,
-            faults,
-            path,
-            MOST_RULES,
-            &self.place(path),
-            rules,
-        )
+        check_array(self.alloc, faults, path, MOST_RULES, &array, rules)
     }
 
     /// The body of a method of a bean.
@@ -111,7 +105,7 @@ impl<'a, 'b> Place<'a, 'b> {
     {
         let path = under(self.alloc, self.path, "body")?;
         let path = path.as_str();
-        let place = self.place(path);
+        let place = Place::new(self.alloc, self.scenario, path);
         let statements = MethodBody { place, bean };
         let body = body.as_slice();
         check_array(self.alloc, faults, path, MOST_STATEMENTS, &statements, body)
@@ -128,7 +122,7 @@ impl<'a, 'b> Place<'a, 'b> {
     {
         let path = under(self.alloc, self.path, key)?;
         let path = path.as_str();
-        let statements = self.place(path);
+        let statements = Place::new(self.alloc, self.scenario, path);
         let body = body.as_slice();
         check_array(self.alloc, faults, path, MOST_STATEMENTS, &statements, body)
     }

@@ -25,7 +25,7 @@ use Rattle.stx_judge.specs.Calls.{call_cycle, call_depth, leads_to_itself, too_l
 use Rattle.stx_judge.specs.Judge.{IsValid, beans_faults, body_faults, callback_faults, class_cycle, class_depth, classes_faults, client_faults, clients_faults, events_faults, judged, listeners_faults, method_faults, methods_faults, name_faults, rows_faults, scenario_faults, schedule_faults, settings_faults, syncs_faults, turn_faults, tx_faults}
 use Rattle.stx_load.specs.declared.payments.Payment.{Payment}
 use Rattle.stx_load.specs.Draws.{after, draw, next_state}
-use Rattle.stx_load.specs.Generated.{calls_from, generated, helpers, payment, payment_body, payment_method, payment_no, payments, shop, two_digits}
+use Rattle.stx_load.specs.Generated.{calls_from, generated, helpers, bean_no, payment, payment_body, payment_method, method_no, payments, two_digits}
 
 -- ---- what no draw changes computes
 
@@ -114,12 +114,12 @@ unfolding digits
 payment_names = refl
 
 body_none : (seed clients : ℕ) (p : Payment) (path : List ℕ) → p.from < 16 → p.to < 16
-    → body_faults (generated seed clients) shop path (payment_body p) ≡ []
+    → body_faults (generated seed clients) (bean_no 0) path (payment_body p) ≡ []
 unfolding generated
 body_none seed clients p path from to =
     let one = lt-ltb p.from 19 (omega (arith, from)) in
     let other = lt-ltb p.to 19 (omega (arith, to)) in
-    let faults : ℕ → Stmt → List Fault = λ n s. refused (entry path n) (unless (names_known (generated seed clients) s && own_known (generated seed clients) shop s) Stage.UnknownRef) in
+    let faults : ℕ → Stmt → List Fault = λ n s. refused (entry path n) (unless (names_known (generated seed clients) s && own_known (generated seed clients) (bean_no 0) s) Stage.UnknownRef) in
     let P : Stmt → Type 0 = λ s. (n : ℕ) → faults n s ≡ [] in
     none_both (count_faults MOST_STATEMENTS path 6) (each_from faults 0 (payment_body p)) refl
     (each_none faults 0 (payment_body p)
@@ -141,7 +141,7 @@ method_none seed clients n t p name from to =
     let S = generated seed clients in
     let path = entry (codes "methods") n in
     let bean = refused (under path (codes "bean")) (unless (nat_lt 0 (length S.beans)) Stage.UnknownRef) in
-    let body = body_faults S shop (under path (codes "body")) (payment_body p) in
+    let body = body_faults S (bean_no 0) (under path (codes "body")) (payment_body p) in
     let named = name_faults path (codes "t" ++ two_digits t) in
     let tx = tx_faults S path None in
     none_both (bean ++ named ++ tx) body
@@ -198,7 +198,7 @@ client_none seed clients n x =
     let P : MethodNo → Type 0 = λ m. (k : ℕ) → faults k m ≡ [] in
     none_both (count_faults MOST_CALLS path 8) (each_from faults 0 (calls_from x)) refl
     (each_none faults 0 (calls_from x)
-    (of_range P (λ k. payment_no (draw (after x k) 64)) 0 8
+    (of_range P (λ k. method_no (draw (after x k) 64)) 0 8
     (λ k low high at. passed _ _ _ (lt-ltb (draw (after x k) 64) 67 (let below = draw_below (after x k) 64 (omega arith) in omega (arith, below))))))
 
 clients_none : (seed clients : ℕ) → 1 ≤ clients → clients ≤ 64 → clients_faults (generated seed clients) ≡ []
@@ -254,7 +254,7 @@ sum_same each so_far a (suc n) =
 payment_cost : Cost
 payment_cost = record { size = 16; registrations = 1 }
 
-cost_of_payment : (seed clients t : ℕ) → t < 64 → cost (generated seed clients) (payment_no t) ≡ payment_cost
+cost_of_payment : (seed clients t : ℕ) → t < 64 → cost (generated seed clients) (method_no t) ≡ payment_cost
 unfolding generated cost_within payment_cost
 cost_of_payment seed clients t within =
     let S = generated seed clients in
@@ -265,7 +265,7 @@ client_cost : (seed clients x : ℕ) → client_weight (cost (generated seed cli
 unfolding payment_cost
 client_cost seed clients x =
     ap (λ costs. weight_of (total costs))
-    (mapped_same (cost (generated seed clients)) (λ n. payment_no (draw (after x n) 64)) payment_cost
+    (mapped_same (cost (generated seed clients)) (λ n. method_no (draw (after x n) 64)) payment_cost
     (λ n. cost_of_payment seed clients (draw (after x n) 64) (draw_below (after x n) 64 (omega arith))) (range_with_len 0 8))
 
 pub weight_of_clients : (seed clients : ℕ) → weight (generated seed clients) ≡ 1152 * clients
@@ -313,21 +313,7 @@ unfolding generated duplicate_from
 shaped seed clients few =
     let turns = count_of_turns seed clients in
     let count = count_of_clients seed clients in
-    record {
-      classes = refl;
-      values = omega arith;
-      names = refl;
-      rows = refl;
-      few_events = omega arith;
-      few_turns = omega (arith, turns, few);
-      few_rows = omega arith;
-      few_classes = omega arith;
-      few_beans = omega arith;
-      few_methods = omega arith;
-      few_syncs = omega arith;
-      few_listeners = omega arith;
-      few_clients = omega (arith, count, few);
-    }
+    search (arith, turns, count, few)
 
 pub generated_valid : (seed clients : ℕ) → 1 ≤ clients → clients ≤ 64 → IsValid (generated seed clients)
 generated_valid seed clients some few = record { shaped = shaped seed clients few; accepted = accepted seed clients some few }

@@ -36,17 +36,9 @@ row_names = map account_name (range_with_len 0 16) ++ codes "stock" ∷ codes "a
 abbrev pub first_values : List ℤ
 first_values = replicate 16 (pos 1000) ++ pos 100000 ∷ pos 0 ∷ pos 0 ∷ []
 
-abbrev pub account : ℕ → RowNo
-account n = record { 0 = n }
-
-abbrev pub stock_row : RowNo
-stock_row = record { 0 = 16 }
-
-abbrev pub audit_row : RowNo
-audit_row = record { 0 = 17 }
-
-abbrev pub mails_row : RowNo
-mails_row = record { 0 = 18 }
+-- an account is the row of its number
+abbrev pub row_no : ℕ → RowNo
+row_no number = record { 0 = number }
 
 -- ---- beans
 
@@ -62,28 +54,13 @@ beans = bean_with (codes "shop") Propagation.Required
     ∷ bean_with (codes "audit") Propagation.RequiresNew
     ∷ []
 
-abbrev pub shop : BeanNo
-shop = record { 0 = 0 }
-
-abbrev pub stock : BeanNo
-stock = record { 0 = 1 }
-
-abbrev pub audit : BeanNo
-audit = record { 0 = 2 }
+abbrev pub bean_no : ℕ → BeanNo
+bean_no number = record { 0 = number }
 
 -- ---- methods: the payments t00 to t63, and then stock.pick, audit.note and audit.mail
 
-abbrev pub payment_no : ℕ → MethodNo
-payment_no t = record { 0 = t }
-
-abbrev pub pick : MethodNo
-pick = record { 0 = 64 }
-
-abbrev pub note : MethodNo
-note = record { 0 = 65 }
-
-abbrev pub mail : MethodNo
-mail = record { 0 = 66 }
+abbrev pub method_no : ℕ → MethodNo
+method_no number = record { 0 = number }
 
 abbrev pub paid : EventNo
 paid = record { 0 = 0 }
@@ -100,9 +77,11 @@ tried method = Stmt.Call method (Some RUNTIME_EXCEPTION)
 
 abbrev pub payment_body : Payment → List Stmt
 payment_body p =
-    Stmt.Need (account p.from) (pos p.amount)
-    ∷ Stmt.Add (account p.from) (neg_ℤ (pos p.amount))
-    ∷ Stmt.Add (account p.to) (pos p.amount)
+    let pick = method_no 64 in
+    let note = method_no 65 in
+    Stmt.Need (row_no p.from) (pos p.amount)
+    ∷ Stmt.Add (row_no p.from) (neg_ℤ (pos p.amount))
+    ∷ Stmt.Add (row_no p.to) (pos p.amount)
     ∷ tried pick
     ∷ tried note
     ∷ Stmt.Publish paid
@@ -111,20 +90,26 @@ payment_body p =
 abbrev pub method_of : BeanNo → List ℕ → List Stmt → Method
 method_of bean name body = record { bean = bean; name = name; tx = None; body = body }
 
+-- a method of the shop
 abbrev pub payment_method : ℕ → Payment → Method
-payment_method t p = method_of shop (codes "t" ++ two_digits t) (payment_body p)
+payment_method t p = method_of (bean_no 0) (codes "t" ++ two_digits t) (payment_body p)
 
 -- each payment takes three draws, the first of all from the seed
 abbrev pub payments : ℕ → List Method
 payments seed = map (λ t. payment_method t (payment (after seed (3 * t)))) (range_with_len 0 64)
 
+-- stock.pick, audit.note and audit.mail
 abbrev pub helpers : List Method
 helpers =
-    method_of stock (codes "pick") (Stmt.Need stock_row (pos 1) ∷ Stmt.Add stock_row (neg_ℤ (pos 1)) ∷ [])
-    ∷ method_of audit (codes "note") (Stmt.Add audit_row (pos 1) ∷ [])
-    ∷ method_of audit (codes "mail") (Stmt.Add mails_row (pos 1) ∷ [])
+    let stock = row_no 16 in
+    let audit = row_no 17 in
+    let mails = row_no 18 in
+    method_of (bean_no 1) (codes "pick") (Stmt.Need stock (pos 1) ∷ Stmt.Add stock (neg_ℤ (pos 1)) ∷ [])
+    ∷ method_of (bean_no 2) (codes "note") (Stmt.Add audit (pos 1) ∷ [])
+    ∷ method_of (bean_no 2) (codes "mail") (Stmt.Add mails (pos 1) ∷ [])
     ∷ []
 
+-- each payment that is committed is mailed
 abbrev pub listeners : List Listener
 listeners = record {
   name = codes "mail";
@@ -132,14 +117,14 @@ listeners = record {
   phase = Phase.AfterCommit;
   order = pos 2147483647;
   fallback = false;
-  body = Stmt.Call mail None ∷ [];
+  body = Stmt.Call (method_no 66) None ∷ [];
 } ∷ []
 
 -- ---- what clients call, and the schedule
 
 -- eight payments, each a draw of all of them
 abbrev pub calls_from : ℕ → List MethodNo
-calls_from x = map (λ n. payment_no (draw (after x n) 64)) (range_with_len 0 8)
+calls_from x = map (λ n. method_no (draw (after x n) 64)) (range_with_len 0 8)
 
 -- after the 192 draws of all payments, each client takes eight
 abbrev pub calls_of_clients : ℕ → ℕ → List (List MethodNo)

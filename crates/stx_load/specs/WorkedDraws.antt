@@ -1,12 +1,8 @@
 -- Worked draws: what three seeds give for four clients, as tools/load_draws.py works it out.
 use Rattle.std.specs.Prelude.{◌≡◌, ℕ, ◌-◌, ◌^◌, List, [], ◌∷◌, map, take, Some, pos, neg_ℤ}
-use Rattle.stx_scenario.specs.declared.numbers.MethodNo.{MethodNo}
 use Rattle.stx_scenario.specs.declared.scenario.Stmt.{Stmt}
 use Rattle.stx_base.specs.Weight.{body_of}
-use Rattle.stx_load.specs.Generated.{generated}
-
-abbrev pub numbered : ℕ → MethodNo
-numbered n = record { 0 = n }
+use Rattle.stx_load.specs.Generated.{generated, method_no}
 
 -- a payment of k from account i to account j
 abbrev pub pays : ℕ → ℕ → ℕ → List Stmt
@@ -14,14 +10,14 @@ pays i j k =
     Stmt.Need (record { 0 = i }) (pos k)
     ∷ Stmt.Add (record { 0 = i }) (neg_ℤ (pos k))
     ∷ Stmt.Add (record { 0 = j }) (pos k)
-    ∷ Stmt.Call (numbered 64) (Some (record { 0 = 3 }))
-    ∷ Stmt.Call (numbered 65) (Some (record { 0 = 3 }))
+    ∷ Stmt.Call (method_no 64) (Some (record { 0 = 3 }))
+    ∷ Stmt.Call (method_no 65) (Some (record { 0 = 3 }))
     ∷ Stmt.Publish (record { 0 = 0 })
     ∷ []
 
 -- the bodies of t00, t01 and t63, all calls and the first 20 turns that a seed gives for four clients
 pub record IsWorkedOut (seed : ℕ) (bodies : List (List Stmt)) (calls : List (List ℕ)) (turns : List ℕ) : Type 0 where
-  pub bodies_are : map (body_of (generated seed 4)) (numbered 0 ∷ numbered 1 ∷ numbered 63 ∷ []) ≡ bodies
+  pub bodies_are : map (body_of (generated seed 4)) (method_no 0 ∷ method_no 1 ∷ method_no 63 ∷ []) ≡ bodies
   pub calls_are : map (map (λ method. method.0)) (generated seed 4).clients ≡ calls
   pub turns_are : take 20 (generated seed 4).schedule ≡ turns
 

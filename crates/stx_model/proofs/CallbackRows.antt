@@ -8,8 +8,9 @@ use Rattle.stx_scenario.specs.declared.scenario.Stmt.{Stmt}
 use Rattle.stx_base.specs.declared.history.Answer.{Answer}
 use Rattle.stx_base.specs.declared.line.Label.{Label}
 use Rattle.stx_base.specs.declared.line.Line.{Line}
+use Rattle.stx_base.specs.declared.manager.Kind.{Kind}
 use Rattle.stx_model.proofs.Small.{m, n, a, sync_no, s, t, required, supports, requires_new, last_of_all, method, failing, sync, plainly, registering, Says}
-use Rattle.stx_model.proofs.Traces.{top, call, leave, leave_throws, throw, catch, swallow, rules_rollback_by, rules_keep_by, open_fresh_sync, open_join, open_empty_sync, end_commit, end_rollback, end_unexpected, take, give, unbind, bind, suspend, resume, begin, write, commit, rollback, register, before_commit, before_completion, after_commit, after_completion_committed, after_completion_rolled_back}
+use Rattle.stx_model.proofs.Traces.{top, call, leave, leave_throws, throw, catch, swallow, rules_rollback_by, rules_keep_by, opened_sync, opened, end_commit, end_rollback, end_unexpected, take, give, unbind, bind, suspend, resume, begin, write, commit, rollback, register, before_commit, before_completion, after_commit, after_completion_committed, after_completion_rolled_back}
 use Rattle.stx_model.proofs.Passages.{m_begins, m_is_refused_with, n_joins_and_marks, n_begins_apart}
 
 -- ---- order
@@ -55,7 +56,7 @@ registered_by_two = record (plainly (
 
 pub the_fresh_scope_alone_calls_back : Says registered_by_two 0 (
     m_begins ++ register s
-    ∷ call n Propagation.Required ∷ open_join ∷ register t ∷ end_commit ∷ leave n
+    ∷ call n Propagation.Required ∷ opened Kind.Join ∷ register t ∷ end_commit ∷ leave n
     ∷ end_commit ∷ before_commit s ∷ before_commit t ∷ before_completion s ∷ before_completion t ∷ commit 1 1
     ∷ after_commit s ∷ after_commit t ∷ after_completion_committed s ∷ after_completion_committed t ∷ give 1 ∷ leave m ∷ [])
 unfolding Says
@@ -97,7 +98,7 @@ a_checked_throw_before_commit_rolls_back_too = refl
 
 -- an empty scope has nothing to commit
 pub a_throw_before_commit_in_an_empty_scope : Says (record refused_commit { methods = method supports (Stmt.Register (sync_no 0) ∷ []) ∷ [] }) 0 (
-    top 0 ∷ call m Propagation.Supports ∷ open_empty_sync ∷ register s
+    top 0 ∷ call m Propagation.Supports ∷ opened_sync Kind.Empty ∷ register s
     ∷ end_commit ∷ before_commit s ∷ throw RUNTIME_EXCEPTION
     ∷ before_completion s ∷ after_completion_rolled_back s ∷ leave_throws m RUNTIME_EXCEPTION ∷ [])
 unfolding Says
@@ -115,7 +116,7 @@ unfolding Says
 a_callback_before_commit_writes_in_the_transaction = refl
 
 pub a_busy_row_before_commit_rolls_back : Says written_before_commit 0 (
-    top 0 ∷ call m Propagation.Required ∷ take 1 ∷ begin 2 ∷ open_fresh_sync ∷ register s
+    top 0 ∷ call m Propagation.Required ∷ take 1 ∷ begin 2 ∷ opened_sync Kind.Fresh ∷ register s
     ∷ end_commit ∷ before_commit s ∷ write 2 a (pos 1) (Answer.Busy 1) ∷ throw CANNOT_ACQUIRE_LOCK_EXCEPTION
     ∷ before_completion s ∷ rollback 2 ∷ after_completion_rolled_back s ∷ give 1 ∷ leave_throws m CANNOT_ACQUIRE_LOCK_EXCEPTION ∷ [])
 unfolding Says
@@ -163,7 +164,7 @@ a_throw_after_commit_takes_the_place_of_a_kept_exception = refl
 
 pub a_throw_after_commit_in_an_empty_scope :
     Says (record failed_after_commit { methods = method supports (Stmt.Register (sync_no 0) ∷ []) ∷ [] }) 0 (
-    top 0 ∷ call m Propagation.Supports ∷ open_empty_sync ∷ register s
+    top 0 ∷ call m Propagation.Supports ∷ opened_sync Kind.Empty ∷ register s
     ∷ end_commit ∷ before_commit s ∷ before_completion s
     ∷ after_commit s ∷ throw RUNTIME_EXCEPTION ∷ after_completion_committed s ∷ leave_throws m RUNTIME_EXCEPTION ∷ [])
 unfolding Says
@@ -226,14 +227,14 @@ pub in_after_completion_alone_no_synchronisation_is_active : Says calls_in_each_
     m_begins ++ register s
     ∷ end_commit ∷ before_commit s
     ∷ before_completion s
-    ∷ call n Propagation.RequiresNew ∷ suspend s ∷ unbind 1 ∷ take 2 ∷ begin 2 ∷ open_fresh_sync
+    ∷ call n Propagation.RequiresNew ∷ suspend s ∷ unbind 1 ∷ take 2 ∷ begin 2 ∷ opened_sync Kind.Fresh
     ∷ end_commit ∷ commit 2 1 ∷ give 2 ∷ bind 1 ∷ resume s ∷ leave n
     ∷ commit 1 2
     ∷ after_commit s
-    ∷ call n Propagation.RequiresNew ∷ suspend s ∷ unbind 1 ∷ take 2 ∷ begin 3 ∷ open_fresh_sync
+    ∷ call n Propagation.RequiresNew ∷ suspend s ∷ unbind 1 ∷ take 2 ∷ begin 3 ∷ opened_sync Kind.Fresh
     ∷ end_commit ∷ commit 3 3 ∷ give 2 ∷ bind 1 ∷ resume s ∷ leave n
     ∷ after_completion_committed s
-    ∷ call n Propagation.RequiresNew ∷ unbind 1 ∷ take 2 ∷ begin 4 ∷ open_fresh_sync
+    ∷ call n Propagation.RequiresNew ∷ unbind 1 ∷ take 2 ∷ begin 4 ∷ opened_sync Kind.Fresh
     ∷ end_commit ∷ commit 4 4 ∷ give 2 ∷ bind 1 ∷ leave n
     ∷ give 1 ∷ leave m ∷ [])
 unfolding Says
@@ -245,10 +246,10 @@ pub after_completion_of_an_empty_scope_meets_a_bare_context :
       methods = method supports (Stmt.Register (sync_no 0) ∷ []) ∷ method requires_new [] ∷ [];
       syncs = record (sync last_of_all) { after_completion = Stmt.Call n None ∷ [] } ∷ [];
     }) 0 (
-    top 0 ∷ call m Propagation.Supports ∷ open_empty_sync ∷ register s
+    top 0 ∷ call m Propagation.Supports ∷ opened_sync Kind.Empty ∷ register s
     ∷ end_commit ∷ before_commit s ∷ before_completion s ∷ after_commit s
     ∷ after_completion_committed s
-    ∷ call n Propagation.RequiresNew ∷ take 1 ∷ begin 1 ∷ open_fresh_sync ∷ end_commit ∷ commit 1 1 ∷ give 1 ∷ leave n
+    ∷ call n Propagation.RequiresNew ∷ take 1 ∷ begin 1 ∷ opened_sync Kind.Fresh ∷ end_commit ∷ commit 1 1 ∷ give 1 ∷ leave n
     ∷ leave m ∷ [])
 unfolding Says
 after_completion_of_an_empty_scope_meets_a_bare_context = refl
@@ -262,7 +263,7 @@ pub a_callback_catches_what_its_call_throws :
     m_begins ++ register s
     ∷ end_commit ∷ before_commit s ∷ before_completion s ∷ commit 1 1
     ∷ after_commit s
-    ∷ call n Propagation.RequiresNew ∷ suspend s ∷ unbind 1 ∷ take 2 ∷ begin 2 ∷ open_fresh_sync ∷ throw RUNTIME_EXCEPTION ∷ rules_rollback_by None
+    ∷ call n Propagation.RequiresNew ∷ suspend s ∷ unbind 1 ∷ take 2 ∷ begin 2 ∷ opened_sync Kind.Fresh ∷ throw RUNTIME_EXCEPTION ∷ rules_rollback_by None
     ∷ end_rollback ∷ rollback 2 ∷ give 2 ∷ bind 1 ∷ resume s ∷ leave_throws n RUNTIME_EXCEPTION ∷ catch RUNTIME_EXCEPTION
     ∷ after_completion_committed s ∷ give 1 ∷ leave m ∷ [])
 unfolding Says

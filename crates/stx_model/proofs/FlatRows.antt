@@ -12,8 +12,9 @@ use Rattle.stx_scenario.specs.declared.scenario.Stmt.{Stmt}
 use Rattle.stx_scenario.specs.BuiltIn.{built_in, class_below}
 use Rattle.stx_base.specs.declared.history.Answer.{Answer}
 use Rattle.stx_base.specs.declared.line.Line.{Line}
+use Rattle.stx_base.specs.declared.manager.Kind.{Kind}
 use Rattle.stx_model.proofs.Small.{m, n, a, required, settings, method, named, failing, plainly, Says}
-use Rattle.stx_model.proofs.Traces.{top, call, call_plain, leave, leave_throws, throw, rules_rollback_by, rules_keep_by, open_fresh_sync, end_commit, end_rollback, take, take_empty, give, begin, read, write, erase, commit, rollback}
+use Rattle.stx_model.proofs.Traces.{top, call, call_plain, leave, leave_throws, throw, rules_rollback_by, rules_keep_by, opened_sync, end_commit, end_rollback, take, take_empty, give, begin, read, write, erase, commit, rollback}
 use Rattle.stx_model.proofs.Passages.{m_begins, m_commits, m_commits_and_throws, m_rolls_back_by, throws_out}
 
 -- ---- one method
@@ -186,13 +187,13 @@ written = m_begins ++ write 1 a (pos 1) Answer.Done
 
 -- the reader beside the writer
 abbrev pub refused_beside : List Line
-refused_beside = top 0 ∷ call n Propagation.Required ∷ take 2 ∷ begin 2 ∷ open_fresh_sync
+refused_beside = top 0 ∷ call n Propagation.Required ∷ take 2 ∷ begin 2 ∷ opened_sync Kind.Fresh
     ∷ read 2 a (Answer.Busy 1) ∷ throw CANNOT_ACQUIRE_LOCK_EXCEPTION ∷ rules_rollback_by None
     ∷ end_rollback ∷ rollback 2 ∷ give 2 ∷ leave_throws n CANNOT_ACQUIRE_LOCK_EXCEPTION ∷ []
 
 -- the reader after the writer
 abbrev pub read_after : List Line
-read_after = top 0 ∷ call n Propagation.Required ∷ take 1 ∷ begin 2 ∷ open_fresh_sync ∷ read 2 a (Answer.Found (pos 1))
+read_after = top 0 ∷ call n Propagation.Required ∷ take 1 ∷ begin 2 ∷ opened_sync Kind.Fresh ∷ read 2 a (Answer.Found (pos 1))
     ∷ end_commit ∷ commit 2 2 ∷ give 1 ∷ leave n ∷ []
 
 pub the_writer_commits : Says rivals 0 written

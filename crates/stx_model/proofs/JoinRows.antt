@@ -6,15 +6,16 @@ use Rattle.stx_scenario.specs.declared.scenario.Scenario.{Scenario}
 use Rattle.stx_scenario.specs.declared.scenario.Propagation.{Propagation}
 use Rattle.stx_scenario.specs.declared.scenario.Stmt.{Stmt}
 use Rattle.stx_base.specs.declared.history.Answer.{Answer}
+use Rattle.stx_base.specs.declared.manager.Kind.{Kind}
 use Rattle.stx_model.proofs.Small.{m, n, p, a, required, supports, mandatory, requires_new, method, failing, plainly, calling, marked_and_then, Says}
-use Rattle.stx_model.proofs.Traces.{top, call, call_plain, leave, leave_throws, throw, catch, rules_rollback_by, rules_keep_by, open_join, end_commit, end_rollback, end_unexpected, mark, mark_global, give, bind, write, commit}
+use Rattle.stx_model.proofs.Traces.{top, call, call_plain, leave, leave_throws, throw, catch, rules_rollback_by, rules_keep_by, opened, end_commit, end_rollback, end_unexpected, mark, mark_global, give, bind, write, commit}
 use Rattle.stx_model.proofs.Passages.{m_begins, m_commits, m_rolls_back, m_rolls_back_by, m_ends_unexpectedly, n_joins_and_marks, n_begins_apart, n_rolls_back_apart, throws_out}
 
 -- ---- a joined scope fails, and its caller catches the exception
 
 pub a_joined_failure_is_unexpected :
     Says (calling (Some RUNTIME_EXCEPTION) (method required (Stmt.Write a (pos 1) ∷ Stmt.Throw RUNTIME_EXCEPTION ∷ []))) 0 (
-    m_begins ++ call n Propagation.Required ∷ open_join ∷ write 1 a (pos 1) Answer.Done ∷ throw RUNTIME_EXCEPTION ∷ rules_rollback_by None
+    m_begins ++ call n Propagation.Required ∷ opened Kind.Join ∷ write 1 a (pos 1) Answer.Done ∷ throw RUNTIME_EXCEPTION ∷ rules_rollback_by None
     ∷ end_rollback ∷ mark_global ∷ leave_throws n RUNTIME_EXCEPTION ∷ catch RUNTIME_EXCEPTION
     ∷ m_ends_unexpectedly)
 unfolding Says
@@ -31,8 +32,8 @@ joining = plainly (
     ∷ [])
 
 pub supports_and_mandatory_join : Says joining 0 (
-    m_begins ++ call n Propagation.Supports ∷ open_join ∷ write 1 a (pos 1) Answer.Done ∷ end_commit ∷ leave n
-    ∷ call p Propagation.Mandatory ∷ open_join ∷ end_commit ∷ leave p
+    m_begins ++ call n Propagation.Supports ∷ opened Kind.Join ∷ write 1 a (pos 1) Answer.Done ∷ end_commit ∷ leave n
+    ∷ call p Propagation.Mandatory ∷ opened Kind.Join ∷ end_commit ∷ leave p
     ∷ m_commits)
 unfolding Says
 supports_and_mandatory_join = refl
@@ -47,7 +48,7 @@ mandatory_is_refused_without_a_transaction = refl
 -- another scope joins the transaction after it was marked
 pub a_joined_scope_under_the_mark_marks_again_and_throws_nothing : Says (marked_and_then None (method required [])) 0 (
     m_begins ++ n_joins_and_marks ++ catch RUNTIME_EXCEPTION
-    ∷ call p Propagation.Required ∷ open_join ∷ end_unexpected ∷ mark_global ∷ leave p
+    ∷ call p Propagation.Required ∷ opened Kind.Join ∷ end_unexpected ∷ mark_global ∷ leave p
     ∷ m_ends_unexpectedly)
 unfolding Says
 a_joined_scope_under_the_mark_marks_again_and_throws_nothing = refl
@@ -120,7 +121,7 @@ a_mark_stays_over_an_inner_scope = refl
 
 -- a joined scope marks itself, and its caller meets the global mark
 pub a_marked_joined_scope_marks_the_transaction : Says (calling None (method required (Stmt.Mark ∷ []))) 0 (
-    m_begins ++ call n Propagation.Required ∷ open_join ∷ mark ∷ end_rollback ∷ mark_global ∷ leave n
+    m_begins ++ call n Propagation.Required ∷ opened Kind.Join ∷ mark ∷ end_rollback ∷ mark_global ∷ leave n
     ∷ m_ends_unexpectedly)
 unfolding Says
 a_marked_joined_scope_marks_the_transaction = refl

@@ -9,8 +9,9 @@ use Rattle.stx_scenario.specs.declared.scenario.Phase.{Phase}
 use Rattle.stx_scenario.specs.declared.scenario.Stmt.{Stmt}
 use Rattle.stx_base.specs.declared.history.Answer.{Answer}
 use Rattle.stx_base.specs.declared.line.Label.{Label}
+use Rattle.stx_base.specs.declared.manager.Kind.{Kind}
 use Rattle.stx_model.proofs.Small.{m, n, a, sync_no, e, listener_no, s, l, o, required, requires_new, not_supported, settings, last_of_all, method, sync, listener, plainly, calling, Says}
-use Rattle.stx_model.proofs.Traces.{top, call, call_plain, leave, leave_throws, throw, swallow, rules_rollback_by, open_fresh, open_empty_sync, end_commit, end_rollback, mark, take, give, unbind, bind, begin, write, auto_write, commit, rollback, register, publish, listen, skip, before_commit, before_completion, after_commit, after_completion_committed, after_completion_rolled_back}
+use Rattle.stx_model.proofs.Traces.{top, call, call_plain, leave, leave_throws, throw, swallow, rules_rollback_by, opened, opened_sync, end_commit, end_rollback, mark, take, give, unbind, bind, begin, write, auto_write, commit, rollback, register, publish, listen, skip, before_commit, before_completion, after_commit, after_completion_committed, after_completion_rolled_back}
 use Rattle.stx_model.proofs.Passages.{m_begins, m_commits, m_is_refused_with, n_begins_apart, throws_out}
 
 -- ---- registered listeners
@@ -97,7 +98,7 @@ published_apart = record (calling None (method not_supported (Stmt.Publish e ∷
 }
 
 pub without_a_transaction_a_listener_with_fallback_runs_at_once_and_others_are_skipped : Says published_apart 0 (
-    m_begins ++ call n Propagation.NotSupported ∷ unbind 1 ∷ open_empty_sync
+    m_begins ++ call n Propagation.NotSupported ∷ unbind 1 ∷ opened_sync Kind.Empty
     ∷ publish e ∷ listen (listener_no 0) ∷ skip (listener_no 1)
     ∷ end_commit ∷ bind 1 ∷ leave n
     ∷ m_commits)
@@ -112,7 +113,7 @@ published_in_the_mode_never = record (plainly (method required (Stmt.Write a (po
 }
 
 pub in_the_mode_never_a_listener_with_fallback_runs_at_once_in_the_live_transaction : Says published_in_the_mode_never 0 (
-    top 0 ∷ call m Propagation.Required ∷ take 1 ∷ begin 1 ∷ open_fresh
+    top 0 ∷ call m Propagation.Required ∷ take 1 ∷ begin 1 ∷ opened Kind.Fresh
     ∷ write 1 a (pos 1) Answer.Done
     ∷ publish e ∷ listen (listener_no 0) ∷ write 1 a (pos 2) Answer.Done ∷ skip (listener_no 1)
     ∷ write 1 a (pos 3) Answer.Done

@@ -13,11 +13,12 @@ use Rattle.stx_base.specs.declared.history.PoolNote.{PoolNote}
 use Rattle.stx_base.specs.declared.history.StoreNote.{StoreNote}
 use Rattle.stx_base.specs.declared.call.Want.{Want}
 use Rattle.stx_base.specs.declared.line.Line.{Line}
+use Rattle.stx_base.specs.declared.manager.Kind.{Kind}
 use Rattle.stx_model.specs.Contexts.{Context, Registration, bare}
 use Rattle.stx_model.specs.Meanings.{Result, Stops, Breaks}
 use Rattle.stx_model.specs.Script.{script}
 use Rattle.stx_model.proofs.Small.{method_no, m, n, p, a, k, sync_no, s, required, requires_new, nested, last_of_all, method, sync, plainly, calling, with_transaction, pool_note, store_note, Says}
-use Rattle.stx_model.proofs.Traces.{top, call, call_read_only, call_plain, leave, catch, open_fresh_sync, open_join, end_commit, end_rollback, end_unexpected, mark, take, give, unbind, bind, suspend, resume, begin, read, write, erase, auto_read, auto_write, savepoint, back_to, release, commit, rollback, register, before_completion, after_completion_rolled_back}
+use Rattle.stx_model.proofs.Traces.{top, call, call_read_only, call_plain, leave, catch, opened_sync, opened, end_commit, end_rollback, end_unexpected, mark, take, give, unbind, bind, suspend, resume, begin, read, write, erase, auto_read, auto_write, savepoint, back_to, release, commit, rollback, register, before_completion, after_completion_rolled_back}
 use Rattle.stx_model.proofs.Passages.{m_begins, n_joins_and_marks, nests}
 use Rattle.stx_model.proofs.PointRows.{marked_inside}
 use Rattle.stx_model.proofs.FlatRows.{writes_and_reads}
@@ -48,7 +49,7 @@ unfolding Stands
 and_then_a_transaction = refl
 
 pub a_read_only_transaction_is_bound_as_one :
-    Stands reads_only (top 0 ∷ call_read_only m Propagation.Required ∷ take 1 ∷ begin 1 ∷ open_fresh_sync ∷ []) (Want.Access 1 (Access.Read a))
+    Stands reads_only (top 0 ∷ call_read_only m Propagation.Required ∷ take 1 ∷ begin 1 ∷ opened_sync Kind.Fresh ∷ []) (Want.Access 1 (Access.Read a))
     (record { tx = Some (record { connection = 1; transaction = 1; read_only = true; mark = false }); syncs = Some [] }) (Some false)
 unfolding Stands
 a_read_only_transaction_is_bound_as_one = refl
@@ -58,7 +59,7 @@ abbrev joined_by_a_reader : Scenario
 joined_by_a_reader = record reads_only { methods = method required (Stmt.Call n None ∷ []) ∷ reads_only.methods }
 
 pub a_joined_scope_leaves_the_transaction_as_it_is : Stands joined_by_a_reader
-    (m_begins ++ call_read_only n Propagation.Required ∷ open_join ∷ [])
+    (m_begins ++ call_read_only n Propagation.Required ∷ opened Kind.Join ∷ [])
     (Want.Access 1 (Access.Read a)) (with_transaction false (Some [])) (Some false)
 unfolding Stands
 a_joined_scope_leaves_the_transaction_as_it_is = refl
@@ -79,7 +80,7 @@ unfolding Stands
 what_is_suspended_is_not_carried = refl
 
 pub what_is_resumed_is_carried_again : Stands marked_and_registered
-    (until_the_inner_call ++ take 2 ∷ begin 2 ∷ open_fresh_sync ∷ end_commit ∷ commit 2 1 ∷ give 2 ∷ bind 1 ∷ resume s ∷ leave n
+    (until_the_inner_call ++ take 2 ∷ begin 2 ∷ opened_sync Kind.Fresh ∷ end_commit ∷ commit 2 1 ∷ give 2 ∷ bind 1 ∷ resume s ∷ leave n
     ∷ end_rollback ∷ before_completion s ∷ [])
     (Want.Rollback 1) (with_transaction false of_s) (Some true)
 unfolding Stands
@@ -87,7 +88,7 @@ what_is_resumed_is_carried_again = refl
 
 -- after the after_completion round the connection is still bound, and no synchronisation is active
 pub the_connection_is_bound_until_it_is_given_back : Stands marked_and_registered
-    (until_the_inner_call ++ take 2 ∷ begin 2 ∷ open_fresh_sync ∷ end_commit ∷ commit 2 1 ∷ give 2 ∷ bind 1 ∷ resume s ∷ leave n
+    (until_the_inner_call ++ take 2 ∷ begin 2 ∷ opened_sync Kind.Fresh ∷ end_commit ∷ commit 2 1 ∷ give 2 ∷ bind 1 ∷ resume s ∷ leave n
     ∷ end_rollback ∷ before_completion s ∷ rollback 1 ∷ after_completion_rolled_back s ∷ [])
     (Want.Give 1) (with_transaction false None) (Some true)
 unfolding Stands

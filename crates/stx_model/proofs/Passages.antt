@@ -7,13 +7,14 @@ use Rattle.stx_scenario.specs.declared.numbers.MethodNo.{MethodNo}
 use Rattle.stx_scenario.specs.declared.scenario.Propagation.{Propagation}
 use Rattle.stx_base.specs.declared.line.Label.{Label}
 use Rattle.stx_base.specs.declared.line.Line.{Line}
+use Rattle.stx_base.specs.declared.manager.Kind.{Kind}
 use Rattle.stx_model.proofs.Small.{m, n}
-use Rattle.stx_model.proofs.Traces.{top, call, leave, leave_throws, throw, rules_rollback_by, open_fresh_sync, open_join, open_point, end_commit, end_rollback, end_unexpected, mark_global, take, give, unbind, bind, begin, savepoint, back_to, release, commit, rollback, before_commit, before_completion, after_commit, after_completion_committed, after_completion_rolled_back}
+use Rattle.stx_model.proofs.Traces.{top, call, leave, leave_throws, throw, rules_rollback_by, opened_sync, opened, end_commit, end_rollback, end_unexpected, mark_global, take, give, unbind, bind, begin, savepoint, back_to, release, commit, rollback, before_commit, before_completion, after_commit, after_completion_committed, after_completion_rolled_back}
 
 -- ---- the first top-level call, of m, which has transaction 1 over connection 1
 
 abbrev pub m_begins : List Line
-m_begins = top 0 ∷ call m Propagation.Required ∷ take 1 ∷ begin 1 ∷ open_fresh_sync ∷ []
+m_begins = top 0 ∷ call m Propagation.Required ∷ take 1 ∷ begin 1 ∷ opened_sync Kind.Fresh ∷ []
 
 abbrev pub m_commits : List Line
 m_commits = end_commit ∷ commit 1 1 ∷ give 1 ∷ leave m ∷ []
@@ -47,12 +48,12 @@ m_ends_unexpectedly = end_unexpected ∷ rollback 1 ∷ throw UNEXPECTED_ROLLBAC
 
 -- n joins, throws RuntimeException, and marks the transaction
 abbrev pub n_joins_and_marks : List Line
-n_joins_and_marks = call n Propagation.Required ∷ open_join ∷ throw RUNTIME_EXCEPTION ∷ rules_rollback_by None
+n_joins_and_marks = call n Propagation.Required ∷ opened Kind.Join ∷ throw RUNTIME_EXCEPTION ∷ rules_rollback_by None
     ∷ end_rollback ∷ mark_global ∷ leave_throws n RUNTIME_EXCEPTION ∷ []
 
 -- n has transaction 2 over connection 2, apart from that of m
 abbrev pub n_begins_apart : List Line
-n_begins_apart = call n Propagation.RequiresNew ∷ unbind 1 ∷ take 2 ∷ begin 2 ∷ open_fresh_sync ∷ []
+n_begins_apart = call n Propagation.RequiresNew ∷ unbind 1 ∷ take 2 ∷ begin 2 ∷ opened_sync Kind.Fresh ∷ []
 
 -- its mark rolls it back, and that of m is bound again
 abbrev pub n_rolls_back_apart : List Line
@@ -60,7 +61,7 @@ n_rolls_back_apart = end_rollback ∷ rollback 2 ∷ give 2 ∷ bind 1 ∷ leave
 
 -- a nested call makes a savepoint
 abbrev pub nests : MethodNo → List Line
-nests method = call method Propagation.Nested ∷ savepoint 1 ∷ open_point ∷ []
+nests method = call method Propagation.Nested ∷ savepoint 1 ∷ opened Kind.Point ∷ []
 
 -- and returns to it by what its body threw
 abbrev pub goes_back_by : ClassNo → MethodNo → List Line

@@ -8,8 +8,9 @@ use Rattle.stx_scenario.specs.declared.scenario.TxAttr.{TxAttr}
 use Rattle.stx_scenario.specs.declared.scenario.RuleBy.{RuleBy}
 use Rattle.stx_scenario.specs.declared.scenario.Stmt.{Stmt}
 use Rattle.stx_base.specs.declared.history.Answer.{Answer}
+use Rattle.stx_base.specs.declared.manager.Kind.{Kind}
 use Rattle.stx_model.proofs.Small.{m, n, p, a, required, requires_new, never, method, failing, plainly, calling, Says}
-use Rattle.stx_model.proofs.Traces.{top, call, call_read_only, call_plain, this, leave, leave_throws, throw, catch, rules_rollback_by, rules_keep_by, open_fresh_sync, open_empty_sync, end_commit, end_rollback, mark, take, give, begin, read, write, auto_read, auto_write, commit, rollback}
+use Rattle.stx_model.proofs.Traces.{top, call, call_read_only, call_plain, this, leave, leave_throws, throw, catch, rules_rollback_by, rules_keep_by, opened_sync, end_commit, end_rollback, mark, take, give, begin, read, write, auto_read, auto_write, commit, rollback}
 use Rattle.stx_model.proofs.Passages.{m_begins, m_commits, m_rolls_back, throws_out}
 
 -- ---- calls that open no scope
@@ -88,7 +89,7 @@ unfolding Says
 an_own_need_of_an_absent_row_throws = refl
 
 pub in_an_empty_scope_statements_are_own_ones : Says (plainly (method never (Stmt.Write a (pos 1) ∷ []) ∷ [])) 0 (
-    top 0 ∷ call m Propagation.Never ∷ open_empty_sync
+    top 0 ∷ call m Propagation.Never ∷ opened_sync Kind.Empty
     ∷ take 1 ∷ auto_write a (pos 1) Answer.Done ∷ give 1
     ∷ end_commit ∷ leave m ∷ [])
 unfolding Says
@@ -114,9 +115,9 @@ own_attribute_and_none = record (plainly (
 
 pub the_attribute_of_a_method_replaces_that_of_its_bean_wholly : Says own_attribute_and_none 0 (
     top 0 ∷ call_plain m
-    ∷ call n Propagation.Required ∷ take 1 ∷ begin 1 ∷ open_fresh_sync ∷ throw RUNTIME_EXCEPTION ∷ rules_rollback_by None
+    ∷ call n Propagation.Required ∷ take 1 ∷ begin 1 ∷ opened_sync Kind.Fresh ∷ throw RUNTIME_EXCEPTION ∷ rules_rollback_by None
     ∷ end_rollback ∷ rollback 1 ∷ give 1 ∷ leave_throws n RUNTIME_EXCEPTION ∷ catch RUNTIME_EXCEPTION
-    ∷ call_read_only p Propagation.RequiresNew ∷ take 1 ∷ begin 2 ∷ open_fresh_sync ∷ throw RUNTIME_EXCEPTION ∷ rules_keep_by (Some 0)
+    ∷ call_read_only p Propagation.RequiresNew ∷ take 1 ∷ begin 2 ∷ opened_sync Kind.Fresh ∷ throw RUNTIME_EXCEPTION ∷ rules_keep_by (Some 0)
     ∷ end_commit ∷ commit 2 1 ∷ give 1 ∷ leave_throws p RUNTIME_EXCEPTION ∷ catch RUNTIME_EXCEPTION
     ∷ leave m ∷ [])
 unfolding Says

@@ -7,8 +7,9 @@ use Rattle.stx_scenario.specs.declared.scenario.Propagation.{Propagation}
 use Rattle.stx_scenario.specs.declared.scenario.SyncMode.{SyncMode}
 use Rattle.stx_scenario.specs.declared.scenario.Stmt.{Stmt}
 use Rattle.stx_base.specs.declared.history.Answer.{Answer}
+use Rattle.stx_base.specs.declared.manager.Kind.{Kind}
 use Rattle.stx_model.proofs.Small.{m, n, p, a, k, sync_no, s, required, nested, settings, last_of_all, method, failing, sync, plainly, calling, marked_and_then, Says}
-use Rattle.stx_model.proofs.Traces.{top, call, leave, leave_throws, throw, catch, rules_rollback_by, rules_keep_by, open_fresh_sync, end_commit, end_rollback, end_unexpected, mark, take, give, begin, read, write, back_to, release, rollback, register}
+use Rattle.stx_model.proofs.Traces.{top, call, leave, leave_throws, throw, catch, rules_rollback_by, rules_keep_by, opened_sync, end_commit, end_rollback, end_unexpected, mark, take, give, begin, read, write, back_to, release, rollback, register}
 use Rattle.stx_model.proofs.Passages.{m_begins, m_commits, m_commits_with, m_ends_unexpectedly, n_joins_and_marks, nests, goes_back_by, throws_out}
 
 -- ---- a nested scope ends
@@ -107,7 +108,7 @@ unfolding Says
 nested_scopes_are_refused_so_under_the_mark_too = refl
 
 pub a_nested_scope_without_a_transaction_is_fresh : Says (plainly (method nested [] ∷ [])) 0 (
-    top 0 ∷ call m Propagation.Nested ∷ take 1 ∷ begin 1 ∷ open_fresh_sync ∷ m_commits)
+    top 0 ∷ call m Propagation.Nested ∷ take 1 ∷ begin 1 ∷ opened_sync Kind.Fresh ∷ m_commits)
 unfolding Says
 a_nested_scope_without_a_transaction_is_fresh = refl
 
@@ -128,7 +129,7 @@ unfolding Says
 a_row_is_absent_again_after_the_return = refl
 
 pub a_lock_outlives_the_savepoint : Says rivals_over_a_savepoint 1 (
-    top 0 ∷ call p Propagation.Required ∷ take 2 ∷ begin 2 ∷ open_fresh_sync
+    top 0 ∷ call p Propagation.Required ∷ take 2 ∷ begin 2 ∷ opened_sync Kind.Fresh
     ∷ write 2 k (pos 9) (Answer.Busy 1) ∷ throw CANNOT_ACQUIRE_LOCK_EXCEPTION ∷ rules_rollback_by None
     ∷ end_rollback ∷ rollback 2 ∷ give 2 ∷ leave_throws p CANNOT_ACQUIRE_LOCK_EXCEPTION ∷ [])
 unfolding Says

@@ -12,6 +12,7 @@ use Rattle.stx_base.specs.declared.history.StoreNote.{StoreNote}
 use Rattle.stx_base.specs.declared.line.Label.{Label}
 use Rattle.stx_base.specs.declared.line.Line.{Line}
 use Rattle.stx_base.specs.Stores.{store_proper}
+use Rattle.stx_base.specs.declared.manager.Kind.{Kind}
 use Rattle.stx_model.specs.Contexts.{Context}
 use Rattle.stx_model.specs.Brackets.{IsBalanced, connection_bracket, transaction_bracket, binding_bracket, IsResumedInOrder, IsCompletedOnce, top_calls}
 use Rattle.stx_model.proofs.BracketLaws.{once_if_settled}
@@ -25,7 +26,7 @@ use Rattle.stx_model.proofs.FlatRows.{written_and_read}
 use Rattle.stx_model.proofs.NoteRows.{Stands}
 use Rattle.stx_model.proofs.ShopRow.{placed}
 use Rattle.stx_model.proofs.Small.{m, n, a, pool_note, store_note}
-use Rattle.stx_model.proofs.Traces.{top, call, leave, open_fresh_sync, take, give, begin, rollback, unbind, bind, suspend, resume, register, after_completion_committed}
+use Rattle.stx_model.proofs.Traces.{top, call, leave, opened_sync, take, give, begin, rollback, unbind, bind, suspend, resume, register, after_completion_committed}
 
 -- ---- fresh notes
 
@@ -39,7 +40,7 @@ taken_twice h = false≢true (sym h.1.0)
 -- ---- a second call, whose transaction bears this number
 
 abbrev second_begun : ℕ → List Line
-second_begun t = written_and_read ++ top 1 ∷ call m Propagation.Required ∷ take 1 ∷ begin t ∷ open_fresh_sync ∷ []
+second_begun t = written_and_read ++ top 1 ∷ call m Propagation.Required ∷ take 1 ∷ begin t ∷ opened_sync Kind.Fresh ∷ []
 
 abbrev notes : ℕ → List StoreNote
 notes t = filter_map store_note (second_begun t)

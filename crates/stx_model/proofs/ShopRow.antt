@@ -13,29 +13,16 @@ use Rattle.stx_scenario.specs.declared.scenario.Stmt.{Stmt}
 use Rattle.stx_scenario.specs.BuiltIn.{built_in}
 use Rattle.stx_base.specs.declared.history.Answer.{Answer}
 use Rattle.stx_base.specs.declared.line.Line.{Line}
-use Rattle.stx_model.proofs.Small.{method_no, row_no, e, listener_no, l, required, requires_new, nested, settings, listener, Says}
-use Rattle.stx_model.proofs.Traces.{top, call, leave, leave_throws, throw, catch, rules_rollback_by, open_fresh_sync, open_point, end_commit, end_rollback, take, give, unbind, bind, begin, read, write, savepoint, back_to, release, commit, register, publish, listen, before_commit, before_completion, after_commit, after_completion_committed}
+use Rattle.stx_base.specs.declared.manager.Kind.{Kind}
+use Rattle.stx_model.proofs.Small.{method_no, m as place, n as pick, p as note, row_no, a as stock, k as orders, e, listener_no, l, required, requires_new, nested, settings, listener, Says}
+use Rattle.stx_model.proofs.Traces.{top, call, leave, leave_throws, throw, catch, rules_rollback_by, opened_sync, opened, end_commit, end_rollback, take, give, unbind, bind, begin, read, write, savepoint, back_to, release, commit, register, publish, listen, before_commit, before_completion, after_commit, after_completion_committed}
 
-abbrev stock : RowNo
-stock = row_no 0
-
-abbrev orders : RowNo
-orders = row_no 1
-
+-- beside the rows and the methods of the other worked rows, which have the names of the shop here
 abbrev audit : RowNo
 audit = row_no 2
 
 abbrev mails : RowNo
 mails = row_no 3
-
-abbrev place : MethodNo
-place = method_no 0
-
-abbrev pick : MethodNo
-pick = method_no 1
-
-abbrev note : MethodNo
-note = method_no 2
 
 abbrev mail : MethodNo
 mail = method_no 3
@@ -71,11 +58,11 @@ shop = record {
 }
 
 abbrev pub placed : List Line
-placed = top 0 ∷ call place Propagation.Required ∷ take 1 ∷ begin 1 ∷ open_fresh_sync
-    ∷ call note Propagation.RequiresNew ∷ unbind 1 ∷ take 2 ∷ begin 2 ∷ open_fresh_sync
+placed = top 0 ∷ call place Propagation.Required ∷ take 1 ∷ begin 1 ∷ opened_sync Kind.Fresh
+    ∷ call note Propagation.RequiresNew ∷ unbind 1 ∷ take 2 ∷ begin 2 ∷ opened_sync Kind.Fresh
     ∷ read 2 audit Answer.Absent ∷ write 2 audit (pos 1) Answer.Done
     ∷ end_commit ∷ commit 2 1 ∷ give 2 ∷ bind 1 ∷ leave note
-    ∷ call pick Propagation.Nested ∷ savepoint 1 ∷ open_point
+    ∷ call pick Propagation.Nested ∷ savepoint 1 ∷ opened Kind.Point
     ∷ read 1 stock (Answer.Found (pos 2)) ∷ throw ILLEGAL_STATE_EXCEPTION ∷ rules_rollback_by None
     ∷ end_rollback ∷ back_to 1 ∷ release 1 ∷ leave_throws pick ILLEGAL_STATE_EXCEPTION
     ∷ catch ILLEGAL_STATE_EXCEPTION
@@ -83,7 +70,7 @@ placed = top 0 ∷ call place Propagation.Required ∷ take 1 ∷ begin 1 ∷ op
     ∷ publish e ∷ register l
     ∷ end_commit ∷ before_commit l ∷ before_completion l ∷ commit 1 2 ∷ after_commit l ∷ after_completion_committed l
     ∷ listen (listener_no 0)
-    ∷ call mail Propagation.RequiresNew ∷ unbind 1 ∷ take 2 ∷ begin 3 ∷ open_fresh_sync
+    ∷ call mail Propagation.RequiresNew ∷ unbind 1 ∷ take 2 ∷ begin 3 ∷ opened_sync Kind.Fresh
     ∷ read 3 mails Answer.Absent ∷ write 3 mails (pos 1) Answer.Done
     ∷ end_commit ∷ commit 3 3 ∷ give 2 ∷ bind 1 ∷ leave mail
     ∷ give 1 ∷ leave place ∷ []

@@ -8,8 +8,9 @@ use Rattle.stx_scenario.specs.declared.scenario.SyncMode.{SyncMode}
 use Rattle.stx_scenario.specs.declared.scenario.Stmt.{Stmt}
 use Rattle.stx_base.specs.declared.history.Answer.{Answer}
 use Rattle.stx_base.specs.declared.line.Line.{Line}
+use Rattle.stx_base.specs.declared.manager.Kind.{Kind}
 use Rattle.stx_model.proofs.Small.{m, n, p, a, sync_no, s, t, required, supports, requires_new, not_supported, never, settings, last_of_all, method, sync, plainly, calling, marked_and_then, Says}
-use Rattle.stx_model.proofs.Traces.{top, call, call_plain, leave, leave_throws, throw, catch, rules_rollback_by, open_fresh_sync, open_fresh, open_empty_sync, open_empty, end_commit, end_rollback, mark, take, take_empty, give, unbind, bind, suspend, resume, begin, write, auto_write, commit, rollback, register, before_commit, before_completion, after_commit, after_completion_committed, after_completion_rolled_back}
+use Rattle.stx_model.proofs.Traces.{top, call, call_plain, leave, leave_throws, throw, catch, rules_rollback_by, opened_sync, opened, end_commit, end_rollback, mark, take, take_empty, give, unbind, bind, suspend, resume, begin, write, auto_write, commit, rollback, register, before_commit, before_completion, after_commit, after_completion_committed, after_completion_rolled_back}
 use Rattle.stx_model.proofs.Passages.{m_begins, m_commits, m_commits_with, m_rolls_back, m_rolls_back_by, m_ends_unexpectedly, n_joins_and_marks, throws_out}
 
 -- ---- an empty pool
@@ -72,7 +73,7 @@ two_transactions = record (plainly (
 
 pub registrations_are_suspended_and_resumed_by_their_order : Says two_transactions 0 (
     m_begins ++ register s ∷ register t
-    ∷ call n Propagation.RequiresNew ∷ suspend t ∷ suspend s ∷ unbind 1 ∷ take 2 ∷ begin 2 ∷ open_fresh_sync
+    ∷ call n Propagation.RequiresNew ∷ suspend t ∷ suspend s ∷ unbind 1 ∷ take 2 ∷ begin 2 ∷ opened_sync Kind.Fresh
     ∷ register s ∷ throw RUNTIME_EXCEPTION ∷ rules_rollback_by None
     ∷ end_rollback ∷ before_completion s ∷ rollback 2 ∷ after_completion_rolled_back s ∷ give 2
     ∷ bind 1 ∷ resume t ∷ resume s ∷ leave_throws n RUNTIME_EXCEPTION ∷ catch RUNTIME_EXCEPTION
@@ -85,7 +86,7 @@ registrations_are_suspended_and_resumed_by_their_order = refl
 -- the outer transaction is marked, and the inner one isn't
 pub a_new_transaction_has_no_mark_and_leaves_that_of_the_outer_one : Says (marked_and_then None (method requires_new [])) 0 (
     m_begins ++ n_joins_and_marks ++ catch RUNTIME_EXCEPTION
-    ∷ call p Propagation.RequiresNew ∷ unbind 1 ∷ take 2 ∷ begin 2 ∷ open_fresh_sync ∷ end_commit ∷ commit 2 1 ∷ give 2 ∷ bind 1 ∷ leave p
+    ∷ call p Propagation.RequiresNew ∷ unbind 1 ∷ take 2 ∷ begin 2 ∷ opened_sync Kind.Fresh ∷ end_commit ∷ commit 2 1 ∷ give 2 ∷ bind 1 ∷ leave p
     ∷ m_ends_unexpectedly)
 unfolding Says
 a_new_transaction_has_no_mark_and_leaves_that_of_the_outer_one = refl
@@ -107,7 +108,7 @@ apart = record (plainly (
 
 pub not_supported_suspends_the_transaction : Says apart 0 (
     m_begins ++ register s
-    ∷ call n Propagation.NotSupported ∷ suspend s ∷ unbind 1 ∷ open_empty_sync
+    ∷ call n Propagation.NotSupported ∷ suspend s ∷ unbind 1 ∷ opened_sync Kind.Empty
     ∷ register t ∷ take 2 ∷ auto_write a (pos 1) Answer.Done ∷ give 2
     ∷ end_commit ∷ before_commit t ∷ before_completion t ∷ after_commit t ∷ after_completion_committed t ∷ bind 1 ∷ resume s ∷ leave n
     ∷ m_commits_with s)
@@ -123,21 +124,21 @@ fresh_in_an_empty_scope = record (plainly (
     ∷ [])) { syncs = sync last_of_all ∷ [] }
 
 pub a_fresh_scope_suspends_synchronisation_alone : Says fresh_in_an_empty_scope 0 (
-    top 0 ∷ call m Propagation.Supports ∷ open_empty_sync ∷ register s
-    ∷ call n Propagation.Required ∷ suspend s ∷ take 1 ∷ begin 1 ∷ open_fresh_sync ∷ end_commit ∷ commit 1 1 ∷ give 1 ∷ resume s ∷ leave n
+    top 0 ∷ call m Propagation.Supports ∷ opened_sync Kind.Empty ∷ register s
+    ∷ call n Propagation.Required ∷ suspend s ∷ take 1 ∷ begin 1 ∷ opened_sync Kind.Fresh ∷ end_commit ∷ commit 1 1 ∷ give 1 ∷ resume s ∷ leave n
     ∷ end_commit ∷ before_commit s ∷ before_completion s ∷ after_commit s ∷ after_completion_committed s ∷ leave m ∷ [])
 unfolding Says
 a_fresh_scope_suspends_synchronisation_alone = refl
 
 pub an_empty_scope_owns_no_synchronisation_in_the_mode_actual : Says (record fresh_in_an_empty_scope { settings = settings 8 SyncMode.Actual true }) 0 (
-    top 0 ∷ call m Propagation.Supports ∷ open_empty
+    top 0 ∷ call m Propagation.Supports ∷ opened Kind.Empty
     ∷ throw ILLEGAL_STATE_EXCEPTION ∷ rules_rollback_by None ∷ end_rollback ∷ leave_throws m ILLEGAL_STATE_EXCEPTION ∷ [])
 unfolding Says
 an_empty_scope_owns_no_synchronisation_in_the_mode_actual = refl
 
 -- the pool is empty where synchronisation alone was suspended
 pub an_empty_pool_resumes_synchronisation_alone : Says fresh_in_an_empty_scope 0 (
-    top 0 ∷ call m Propagation.Supports ∷ open_empty_sync ∷ register s
+    top 0 ∷ call m Propagation.Supports ∷ opened_sync Kind.Empty ∷ register s
     ∷ call n Propagation.Required ∷ suspend s ∷ take_empty ∷ resume s
     ∷ throws_out CANNOT_CREATE_TRANSACTION_EXCEPTION n
     ++ rules_rollback_by None ∷ end_rollback ∷ before_completion s ∷ after_completion_rolled_back s
@@ -147,7 +148,7 @@ an_empty_pool_resumes_synchronisation_alone = refl
 
 pub a_marked_empty_scope_tells_a_rollback :
     Says (record (plainly (method supports (Stmt.Register (sync_no 0) ∷ Stmt.Mark ∷ []) ∷ [])) { syncs = sync last_of_all ∷ [] }) 0 (
-    top 0 ∷ call m Propagation.Supports ∷ open_empty_sync ∷ register s ∷ mark
+    top 0 ∷ call m Propagation.Supports ∷ opened_sync Kind.Empty ∷ register s ∷ mark
     ∷ end_rollback ∷ before_completion s ∷ after_completion_rolled_back s ∷ leave m ∷ [])
 unfolding Says
 a_marked_empty_scope_tells_a_rollback = refl
@@ -160,8 +161,8 @@ empty_in_empty = record (plainly (
     ∷ [])) { syncs = sync last_of_all ∷ [] }
 
 pub an_inner_empty_scope_leaves_its_registrations_to_the_owner : Says empty_in_empty 0 (
-    top 0 ∷ call m Propagation.Supports ∷ open_empty_sync
-    ∷ call n Propagation.NotSupported ∷ open_empty ∷ register s ∷ end_commit ∷ leave n
+    top 0 ∷ call m Propagation.Supports ∷ opened_sync Kind.Empty
+    ∷ call n Propagation.NotSupported ∷ opened Kind.Empty ∷ register s ∷ end_commit ∷ leave n
     ∷ end_commit ∷ before_commit s ∷ before_completion s ∷ after_commit s ∷ after_completion_committed s ∷ leave m ∷ [])
 unfolding Says
 an_inner_empty_scope_leaves_its_registrations_to_the_owner = refl
@@ -174,7 +175,7 @@ registered_in_the_mode_never = record (plainly (method required (Stmt.Register (
 }
 
 pub nothing_registers_in_the_mode_never : Says registered_in_the_mode_never 0 (
-    top 0 ∷ call m Propagation.Required ∷ take 1 ∷ begin 1 ∷ open_fresh
+    top 0 ∷ call m Propagation.Required ∷ take 1 ∷ begin 1 ∷ opened Kind.Fresh
     ∷ throw ILLEGAL_STATE_EXCEPTION ∷ m_rolls_back_by ILLEGAL_STATE_EXCEPTION)
 unfolding Says
 nothing_registers_in_the_mode_never = refl

@@ -8,7 +8,7 @@ use Rattle.stx_scenario.specs.declared.numbers.MethodNo.{MethodNo}
 use Rattle.stx_scenario.specs.declared.scenario.Scenario.{Scenario}
 use Rattle.stx_scenario.specs.declared.scenario.Stmt.{Stmt}
 use Rattle.stx_scenario.specs.Names.{is_name}
-use Rattle.stx_base.specs.Valid.{names_known, own_known, BeanInOrder, MethodInOrder, CallsInOrder, IsInOrder}
+use Rattle.stx_base.specs.Valid.{names_known, own_known, BodyInOrder, BeanInOrder, MethodInOrder, CallsInOrder, PlacesInOrder, IsInOrder}
 use Rattle.stx_base.specs.Weight.{StatementInRange, BodyInRange, MethodsInRange, has_method, leads, longest, cost_within, rank, IsOnCycle}
 use Rattle.stx_base.proofs.WorkedClasses.{built_in_tree}
 use Rattle.stx_model.proofs.FlatRows.{writes_and_reads}
@@ -46,43 +46,37 @@ lowest (suc k) below = absurd (omega (arith, below))
 no_cycle : (n : MethodNo) → n.0 < 1 → ¬ (IsOnCycle (leads twice) n)
 no_cycle n below (steps, (through, led, way)) = false≢true (ap (λ ms. has_method ms through) (sym (leads_nowhere n.0 below)) ∙ led)
 
+event : All (λ name. is_name name ≡ true) twice.events
+event = one (λ name. is_name name ≡ true) (codes "e") refl
+
+bean : All (BeanInOrder twice) twice.beans
+bean = one (BeanInOrder twice) _ (record { name = refl; tx = tt })
+
+body : BodyInOrder twice (record { 0 = 0 }) (writes ∷ reads ∷ [])
+body = record {
+  few = omega arith;
+  known = two (λ s. names_known twice s ≡ true) writes reads refl refl;
+  own = two (λ s. own_known twice (record { 0 = 0 }) s ≡ true) writes reads refl refl;
+}
+
+method : All (MethodInOrder twice) twice.methods
+method = one (MethodInOrder twice) _ (record { bean = omega arith; name = refl; tx = record { few = omega arith; rules = none _ }; body = body })
+
+known : All (λ n. n.0 < 1) (m ∷ m ∷ [])
+known = two (λ n. n.0 < 1) m m (omega arith) (omega arith)
+
+calls : All (CallsInOrder twice) twice.clients
+calls = one (CallsInOrder twice) _ (record { few = omega arith; methods = known })
+
+places : PlacesInOrder twice
+places = search (arith, none, event, bean, method, calls)
+
 pub twice_is_valid : IsInOrder twice
 unfolding leads longest cost_within
 twice_is_valid = record {
-  places = record {
-    few_events = omega arith;
-    events = one (λ name. is_name name ≡ true) (codes "e") refl;
-    few_turns = omega arith;
-    turns = none _;
-    connections = omega arith;
-    few_connections = omega arith;
-    few_values = omega arith;
-    rows = none _;
-    few_classes = omega arith;
-    classes = none _;
-    few_beans = omega arith;
-    beans = one (BeanInOrder twice) _ (record { name = refl; tx = tt });
-    few_methods = omega arith;
-    methods = one (MethodInOrder twice) _ (record {
-      bean = omega arith;
-      name = refl;
-      tx = record { few = omega arith; rules = none _ };
-      body = record {
-        few = omega arith;
-        known = two (λ s. names_known twice s ≡ true) writes reads refl refl;
-        own = two (λ s. own_known twice (record { 0 = 0 }) s ≡ true) writes reads refl refl;
-      };
-    });
-    few_syncs = omega arith;
-    syncs = none _;
-    few_listeners = omega arith;
-    listeners = none _;
-    any_client = omega arith;
-    few_clients = omega arith;
-    clients = one (CallsInOrder twice) _ (record { few = omega arith; methods = two (λ n. n.0 < 1) m m (omega arith) (omega arith) });
-  };
+  places = places;
   callbacks = record { syncs = none _; listeners = none _ };
-  range = record { few = omega arith; methods = one (λ method. BodyInRange 1 1 0 method.body) _ (two (StatementInRange 1 1 0) writes reads tt tt); syncs = none _; listeners = none _; clients = one (MethodsInRange 1) (m ∷ m ∷ []) (two (λ n. n.0 < 1) m m (omega arith) (omega arith)) };
+  range = record { few = omega arith; methods = one (λ method. BodyInRange 1 1 0 method.body) _ (two (StatementInRange 1 1 0) writes reads tt tt); syncs = none _; listeners = none _; clients = one (MethodsInRange 1) (m ∷ m ∷ []) known };
   tree = built_in_tree;
   acyclic = no_cycle;
   shallow = λ n below. lowest n.0 below;

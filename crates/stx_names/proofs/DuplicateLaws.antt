@@ -4,8 +4,8 @@ use Rattle.std.proofs.lemmas.List.{map-id, at_drop_more, at_drop_all, take_more}
 use Rattle.std.specs.List.{drop-map}
 use Rattle.stx_scenario.specs.declared.scenario.Scenario.{Scenario}
 use Rattle.stx_names.specs.declared.named.Named.{Named}
-use Rattle.stx_refusals.proofs.QuietLaws.{some_none, mapped_none}
-use Rattle.stx_names.specs.Duplicates.{names_of, number_of_method, duplicate_among}
+use Rattle.stx_refusals.proofs.QuietLaws.{none_at, mapped_none}
+use Rattle.stx_names.specs.Duplicates.{names_of, number_of_method, duplicates, duplicate_among}
 use Rattle.stx_scenario.specs.Names.{has_name, duplicate_from, built_in_names}
 use Rattle.stx_names.specs.Numbers.{with_name}
 
@@ -80,19 +80,13 @@ pub record AllDiffer (named : Named) : Type 0 where
 
 pub all_differ : (named : Named) → duplicate_among named ≡ None → AllDiffer named
 all_differ named none =
-    let events = some_none _ _ none in
-    let rows = some_none _ _ events.1 in
-    let classes = some_none _ _ rows.1 in
-    let beans = some_none _ _ classes.1 in
-    let methods = some_none _ _ beans.1 in
-    let syncs = some_none _ _ methods.1 in
-    let listeners = some_none _ _ syncs.1 in
+    let without = λ (n : ℕ). none_at n (duplicates named) none in
     record {
-      events = mapped_none _ _ events.0;
-      rows = mapped_none _ _ rows.0;
-      classes = mapped_none _ _ classes.0;
-      beans = mapped_none _ _ beans.0;
-      methods = mapped_none _ _ methods.0;
-      syncs = mapped_none _ _ syncs.0;
-      listeners = mapped_none _ _ listeners.0;
+      events = mapped_none _ _ (without 0);
+      rows = mapped_none _ _ (without 1);
+      classes = mapped_none _ _ (without 2);
+      beans = mapped_none _ _ (without 3);
+      methods = mapped_none _ _ (without 4);
+      syncs = mapped_none _ _ (without 5);
+      listeners = mapped_none _ _ (without 6);
     }

@@ -19,9 +19,9 @@ duplicate path place = option_map (λ n. ReadFault.Duplicate (path n)) place
 abbrev pub entry_name : List ℕ → ℕ → List ℕ
 entry_name array n = under (entry array n) (codes "name")
 
--- the first in walk order; a class must not have a built-in name, nor a listener a sync's
-abbrev pub duplicate_among : Named → Option ReadFault
-duplicate_among named = first_some (
+-- that of each group, in walk order; a class must not have a built-in name, nor a listener a sync's
+abbrev pub duplicates : Named → List (Option ReadFault)
+duplicates named =
     duplicate (entry (codes "events")) (duplicate_from [] 0 named.events)
     ∷ duplicate (entry_name (codes "rows")) (duplicate_from [] 0 named.rows)
     ∷ duplicate (entry_name (codes "classes")) (duplicate_from built_in_names 0 named.classes)
@@ -29,7 +29,11 @@ duplicate_among named = first_some (
     ∷ duplicate (entry_name (codes "methods")) (duplicate_from [] 0 named.methods)
     ∷ duplicate (entry_name (codes "syncs")) (duplicate_from [] 0 named.syncs)
     ∷ duplicate (entry_name (codes "listeners")) (duplicate_from named.syncs 0 named.listeners)
-    ∷ [])
+    ∷ []
+
+-- the first of all
+abbrev pub duplicate_among : Named → Option ReadFault
+duplicate_among named = first_some (duplicates named)
 
 -- ---- the names of a scenario
 

@@ -140,12 +140,8 @@ fn about<'a>(verb: &str, object: &'a str) -> Option<Sentence<'a>>
 fn with_value<'a>(verb: &str, row: &'a str, value: &str) -> Option<Sentence<'a>>
     ensures { result ≡ valued verb.now row.now value.now }
 {
-    let Some(row) = name_in(row) else {
-        return None;
-    };
-    let Some(value) = number_in(value) else {
-        return None;
-    };
+    let row = name_in(row)?;
+    let value = number_in(value)?;
     match verb {
         "write" => Some(Sentence::Write(row, value)),
         "add" => Some(Sentence::Add(row, value)),
@@ -180,9 +176,7 @@ fn catching<'a>(verb: &str, object: &'a str, class: Word<'a>) -> Option<Sentence
 fn call<'a>(object: &'a str, catch: Option<Word<'a>>) -> Option<Sentence<'a>>
     ensures { result ≡ option_map (call_of catch.entry) (method_of object.now) }
 {
-    let Some((bean, method)) = method_in(object) else {
-        return None;
-    };
+    let (bean, method) = method_in(object)?;
     Some(Sentence::Call {
         bean,
         method,
@@ -193,9 +187,7 @@ fn call<'a>(object: &'a str, catch: Option<Word<'a>>) -> Option<Sentence<'a>>
 fn this<'a>(object: &'a str, catch: Option<Word<'a>>) -> Option<Sentence<'a>>
     ensures { result ≡ option_map (λ m. SentenceData.This m catch.entry) (name_of object.now) }
 {
-    let Some(method) = name_in(object) else {
-        return None;
-    };
+    let method = name_in(object)?;
     Some(Sentence::This { method, catch })
 }
 
@@ -244,12 +236,8 @@ pub fn method_in(text: &str) -> Option<(Word<'_>, Word<'_>)>
 fn two_names<'a>(bean: &'a str, method: &'a str) -> Option<(Word<'a>, Word<'a>)>
     ensures { result ≡ option_and_then (λ b. option_map (λ m. (b, m)) (name_of method.now)) (name_of bean.now) }
 {
-    let Some(bean) = name_in(bean) else {
-        return None;
-    };
-    let Some(method) = name_in(method) else {
-        return None;
-    };
+    let bean = name_in(bean)?;
+    let method = name_in(method)?;
     Some((bean, method))
 }
 
@@ -272,12 +260,8 @@ pub fn rule_in(text: &str) -> Option<RuleSentence<'_>>
 fn rule_about<'a>(verb: &str, object: &'a str) -> Option<RuleSentence<'a>>
     ensures { result ≡ option_and_then (rule_with object.now) (decision_of verb.now) }
 {
-    let Some(rollback) = decision_in(verb) else {
-        return None;
-    };
-    let Some(by) = matched_in(object) else {
-        return None;
-    };
+    let rollback = decision_in(verb)?;
+    let by = matched_in(object)?;
     Some(RuleSentence { rollback, by })
 }
 

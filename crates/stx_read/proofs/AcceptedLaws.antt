@@ -1,11 +1,11 @@
 -- What a document says of its parts where the stages on single places refuse nothing in it.
-use Rattle.std.proofs.Common.{◌≡◌, ℕ, suc, ◌+◌, ◌≤◌, ℤ, pos, Bool, true, false, ◌||◌, cond, nat_lt, nat_le, List, [], ◌∷◌, ◌++◌, codes, length, Option, Some, None, IfSome, unwrap_or, inl, inr, refl, ap, subst, arith}
+use Rattle.std.proofs.Common.{◌≡◌, ℕ, suc, ◌+◌, ◌<◌, ◌≤◌, ℤ, pos, Bool, true, false, ◌||◌, cond, nat_lt, nat_le, List, [], ◌∷◌, ◌++◌, codes, get_or, length, Option, Some, None, IfSome, unwrap_or, inl, inr, refl, ap, subst, arith}
 use Rattle.std.proofs.lemmas.Bool.{cases_Bool, false≢true, ltb-false}
 use Rattle.std.proofs.lemmas.List.Elements.{All-nil, All-cons}
 use Rattle.std.proofs.lemmas.List.Concat.{flat_map-cons}
 use Rattle.std.specs.List.{All, flat_map, filter_map}
 use Rattle.std.specs.Option.{option_and_then, is_some}
-use Rattle.toml.specs.Data.{Data, string, integer, float, boolean, datetime, array, table, Items, no_items, item, Members, get_member, as_str, as_integer, as_array, as_table}
+use Rattle.toml.specs.Data.{Data, string, integer, boolean, array, table, Items, no_items, item, Members, get_member, as_str, as_integer, as_array, as_table}
 use Rattle.stx_scenario.specs.Names.{is_name, is_class_name}
 use Rattle.stx_names.specs.Integers.{is_pool, is_client}
 use Rattle.stx_names.specs.Sentences.{sentence_in, rule_in}
@@ -17,7 +17,7 @@ use Rattle.stx_refusals.proofs.QuietLaws.{Quiet, InArray, some_none, quiet_both,
 use Rattle.stx_walk.specs.declared.schema.Shape.{Shape}
 use Rattle.stx_walk.specs.declared.schema.Leaf.{Leaf}
 use Rattle.stx_walk.specs.declared.schema.Kind.{Kind}
-use Rattle.stx_walk.specs.Schema.{Key, required, optional, root_keys, keys_of, leaf_stage, text_stage, number_stage, flag_stage}
+use Rattle.stx_walk.specs.Schema.{Key, required, optional, statements, root_keys, keys_of, leaf_stage, text_stage, number_stage, flag_stage}
 use Rattle.stx_walk.specs.Walk.{count, missing, each_item, entry_faults, found_faults, key_faults, unknown_faults, table_faults, walk, document_faults}
 use Rattle.stx_draft.specs.Parts.{text_at, number_at, table_at, entries, texts_at, tables_at, numbers_at}
 use Rattle.stx_names.specs.Duplicates.{duplicate_among}
@@ -82,16 +82,11 @@ pub record Walked (shape : Shape) (inner : Members) : Type 0 where
 items_tables : (shape : Shape) (path : List ℕ) (n : ℕ) (items : Items) → IsQuiet (each_item (λ k d. entry_faults walk shape (entry path k) d) n items)
     → (length (filter_map as_table (entries items)) ≡ count items) × All (Walked shape) (filter_map as_table (entries items))
 items_tables shape path n no_items q = (refl, All-nil (Walked shape))
-items_tables shape path n (item (string t) more) q = absurd (wrong _ _ q)
-items_tables shape path n (item (integer z) more) q = absurd (wrong _ _ q)
-items_tables shape path n (item (float x) more) q = absurd (wrong _ _ q)
-items_tables shape path n (item (boolean b) more) q = absurd (wrong _ _ q)
-items_tables shape path n (item (datetime dt) more) q = absurd (wrong _ _ q)
-items_tables shape path n (item (array items) more) q = absurd (wrong _ _ q)
 items_tables shape path n (item (table inner) more) q =
     let parts = quiet_both (walk shape (entry path n) inner) (each_item (λ k d. entry_faults walk shape (entry path k) d) (n + 1) more) q in
     let rest = items_tables shape path (n + 1) more parts.1 in
     (ap suc rest.0, All-cons (Walked shape) inner (filter_map as_table (entries more)) (record { path = entry path n; quiet = parts.0 }) rest.1)
+items_tables shape path n (item _ more) q = absurd (wrong _ _ q)
 
 -- the tables of an array that may be missing
 pub record TablesIn (shape : Shape) (least most : ℕ) (wanted : Bool) (tables : List Members) : Type 0 where
@@ -110,17 +105,12 @@ tables_found : (name : List ℕ) (wanted : Bool) (shape : Shape) (least most : �
 tables_found name true shape least most path None q = absurd (absent path q)
 tables_found name false shape least most path None q =
     record { few = omega arith; some = λ e. absurd (false≢true e); walked = All-nil (Walked shape) }
-tables_found name wanted shape least most path (Some (string t)) q = absurd (alone _ q)
-tables_found name wanted shape least most path (Some (integer z)) q = absurd (alone _ q)
-tables_found name wanted shape least most path (Some (float x)) q = absurd (alone _ q)
-tables_found name wanted shape least most path (Some (boolean b)) q = absurd (alone _ q)
-tables_found name wanted shape least most path (Some (datetime dt)) q = absurd (alone _ q)
-tables_found name wanted shape least most path (Some (table inner)) q = absurd (alone _ q)
 tables_found name wanted shape least most path (Some (array items)) q =
     let parts = quiet_both (refused path (count_stage least most (count items))) _ q in
     let within = count_within least most (count items) path parts.0 in
     let each = items_tables shape path 0 items parts.1 in
     record { few = omega (arith, each.0, within.1); some = λ e. omega (arith, each.0, within.0); walked = each.1 }
+tables_found name wanted shape least most path (Some _) q = absurd (alone _ q)
 
 -- ---- arrays of texts
 
@@ -138,27 +128,19 @@ module _ (leaf : Leaf) (T : List ℕ → Bool) (stage : Stage) (says : (t : List
       absurd (wrong _ _ (subst (λ (o : Option Stage). IsQuiet (refused (entry path n) o ++ each_item (λ k d. refused (entry path k) (leaf_stage leaf d)) (n + 1) more)) (numbers z) q))
   items_texts path n (item (boolean b) more) q =
       absurd (wrong _ _ (subst (λ (o : Option Stage). IsQuiet (refused (entry path n) o ++ each_item (λ k d. refused (entry path k) (leaf_stage leaf d)) (n + 1) more)) flags q))
-  items_texts path n (item (float x) more) q = absurd (wrong _ _ q)
-  items_texts path n (item (datetime dt) more) q = absurd (wrong _ _ q)
-  items_texts path n (item (array items) more) q = absurd (wrong _ _ q)
-  items_texts path n (item (table inner) more) q = absurd (wrong _ _ q)
+  items_texts path n (item _ more) q = absurd (wrong _ _ q)
 
   texts_found : (name : List ℕ) (wanted : Bool) (most : ℕ) (path : List ℕ) (o : Option Data)
       → IsQuiet (found_faults walk (record { name = name; required = wanted; kind = Kind.Values leaf most }) path o)
       → InArray most (length (filter_map as_str (entries (unwrap_or (option_and_then as_array o) no_items)))) (λ t. T t ≡ true)
       (filter_map as_str (entries (unwrap_or (option_and_then as_array o) no_items)))
   texts_found name wanted most path None q = record { few = omega arith; all = All-nil (λ t. T t ≡ true) }
-  texts_found name wanted most path (Some (string t)) q = absurd (alone _ q)
-  texts_found name wanted most path (Some (integer z)) q = absurd (alone _ q)
-  texts_found name wanted most path (Some (float x)) q = absurd (alone _ q)
-  texts_found name wanted most path (Some (boolean b)) q = absurd (alone _ q)
-  texts_found name wanted most path (Some (datetime dt)) q = absurd (alone _ q)
-  texts_found name wanted most path (Some (table inner)) q = absurd (alone _ q)
   texts_found name wanted most path (Some (array items)) q =
       let parts = quiet_both (refused path (count_stage 0 most (count items))) _ q in
       let within = count_within 0 most (count items) path parts.0 in
       let each = items_texts path 0 items parts.1 in
       record { few = omega (arith, each.0, within.1); all = each.1 }
+  texts_found name wanted most path (Some _) q = absurd (alone _ q)
 
   -- a single text that has to be there
   text_found : (name : List ℕ) (path : List ℕ) (o : Option Data) → IsQuiet (found_faults walk (required name (Kind.Value leaf)) path o)
@@ -167,10 +149,7 @@ module _ (leaf : Leaf) (T : List ℕ → Bool) (stage : Stage) (says : (t : List
   text_found name path (Some (string t)) q = quiet_passed path (T t) stage asked (subst (λ (o : Option Stage). IsQuiet (refused path o)) (says t) q)
   text_found name path (Some (integer z)) q = absurd (alone _ (subst (λ (o : Option Stage). IsQuiet (refused path o)) (numbers z) q))
   text_found name path (Some (boolean b)) q = absurd (alone _ (subst (λ (o : Option Stage). IsQuiet (refused path o)) flags q))
-  text_found name path (Some (float x)) q = absurd (alone _ q)
-  text_found name path (Some (datetime dt)) q = absurd (alone _ q)
-  text_found name path (Some (array items)) q = absurd (alone _ q)
-  text_found name path (Some (table inner)) q = absurd (alone _ q)
+  text_found name path (Some _) q = absurd (alone _ q)
 
 -- ---- clients' numbers, the pool, and tables that may be missing
 
@@ -181,50 +160,30 @@ items_turns path n (item (integer z) more) q =
     let parts = quiet_both (refused (entry path n) (unless (is_client z) OutOfRange)) (each_item (λ k d. refused (entry path k) (leaf_stage Leaf.Client d)) (n + 1) more) q in
     let rest = items_turns path (n + 1) more parts.1 in
     (ap suc rest.0, All-cons (λ z. is_client z ≡ true) z (filter_map as_integer (entries more)) (quiet_passed (entry path n) (is_client z) OutOfRange refl parts.0) rest.1)
-items_turns path n (item (string t) more) q = absurd (wrong _ _ q)
-items_turns path n (item (float x) more) q = absurd (wrong _ _ q)
-items_turns path n (item (boolean b) more) q = absurd (wrong _ _ q)
-items_turns path n (item (datetime dt) more) q = absurd (wrong _ _ q)
-items_turns path n (item (array items) more) q = absurd (wrong _ _ q)
-items_turns path n (item (table inner) more) q = absurd (wrong _ _ q)
+items_turns path n (item _ more) q = absurd (wrong _ _ q)
 
 turns_found : (name : List ℕ) (most : ℕ) (path : List ℕ) (o : Option Data) → IsQuiet (found_faults walk (optional name (Kind.Values Leaf.Client most)) path o)
     → InArray most (length (filter_map as_integer (entries (unwrap_or (option_and_then as_array o) no_items)))) (λ z. is_client z ≡ true)
     (filter_map as_integer (entries (unwrap_or (option_and_then as_array o) no_items)))
 turns_found name most path None q = record { few = omega arith; all = All-nil (λ z. is_client z ≡ true) }
-turns_found name most path (Some (string t)) q = absurd (alone _ q)
-turns_found name most path (Some (integer z)) q = absurd (alone _ q)
-turns_found name most path (Some (float x)) q = absurd (alone _ q)
-turns_found name most path (Some (boolean b)) q = absurd (alone _ q)
-turns_found name most path (Some (datetime dt)) q = absurd (alone _ q)
-turns_found name most path (Some (table inner)) q = absurd (alone _ q)
 turns_found name most path (Some (array items)) q =
     let parts = quiet_both (refused path (count_stage 0 most (count items))) _ q in
     let within = count_within 0 most (count items) path parts.0 in
     let each = items_turns path 0 items parts.1 in
     record { few = omega (arith, each.0, within.1); all = each.1 }
+turns_found name most path (Some _) q = absurd (alone _ q)
 
 pool_found : (name : List ℕ) (path : List ℕ) (o : Option Data) → IsQuiet (found_faults walk (optional name (Kind.Value Leaf.Pool)) path o)
     → is_pool (unwrap_or (option_and_then as_integer o) (pos 8)) ≡ true
 pool_found name path None q = refl
 pool_found name path (Some (integer z)) q = quiet_passed path (is_pool z) OutOfRange refl q
-pool_found name path (Some (string t)) q = absurd (alone _ q)
-pool_found name path (Some (boolean b)) q = absurd (alone _ q)
-pool_found name path (Some (float x)) q = absurd (alone _ q)
-pool_found name path (Some (datetime dt)) q = absurd (alone _ q)
-pool_found name path (Some (array items)) q = absurd (alone _ q)
-pool_found name path (Some (table inner)) q = absurd (alone _ q)
+pool_found name path (Some _) q = absurd (alone _ q)
 
 table_found : (shape : Shape) (name : List ℕ) (path : List ℕ) (o : Option Data) → IsQuiet (found_faults walk (optional name (Kind.Table shape)) path o)
     → IfSome (option_and_then as_table o) (Walked shape)
 table_found shape name path None q = tt
 table_found shape name path (Some (table inner)) q = record { path = path; quiet = q }
-table_found shape name path (Some (string t)) q = absurd (alone _ q)
-table_found shape name path (Some (integer z)) q = absurd (alone _ q)
-table_found shape name path (Some (boolean b)) q = absurd (alone _ q)
-table_found shape name path (Some (float x)) q = absurd (alone _ q)
-table_found shape name path (Some (datetime dt)) q = absurd (alone _ q)
-table_found shape name path (Some (array items)) q = absurd (alone _ q)
+table_found shape name path (Some _) q = absurd (alone _ q)
 
 -- ---- the keys of a table
 
@@ -239,42 +198,33 @@ keys_quiet keys path inner q = each keys (quiet_both (flat_map (key_faults walk 
         let parts = quiet_both (key_faults walk path inner k) (flat_map (key_faults walk path inner) ks) (subst (λ faults. IsQuiet faults) (flat_map-cons (key_faults walk path inner) k ks) q) in
         All-cons (λ key. IsQuiet (key_faults walk path inner key)) k ks parts.0 (each ks parts.1)
 
-any_key : Key
+pub any_key : Key
 any_key = required [] (Kind.Value Leaf.Text)
 
 inner_quiet : (shape : Shape) (inner : Members) (walked : Walked shape inner) → All (λ key. IsQuiet (key_faults walk walked.path inner key)) (keys_of shape)
 inner_quiet shape inner walked = keys_quiet (keys_of shape) walked.path inner (subst (λ faults. IsQuiet faults) (walk_table shape walked.path inner) walked.quiet)
 
+-- what a table says under the key at a place among those of its shape
+module _ (inner : Members) (shape : Shape) (walked : Walked shape inner) (n : ℕ) (within : n < length (keys_of shape)) where
+  quiet_at : (key : Key) → get_or (keys_of shape) n any_key ≡ key → IsQuiet (key_faults walk walked.path inner key)
+  quiet_at key is = subst (λ k. IsQuiet (key_faults walk walked.path inner k)) is (inner_quiet shape inner walked n any_key within)
+
+  pub name_at : get_or (keys_of shape) n any_key ≡ required (codes "name") (Kind.Value Leaf.Name) → is_name (text_at (codes "name") inner) ≡ true
+  name_at is =
+      text_found Leaf.Name is_name BadName (λ t. refl) refl (λ z. refl) refl (codes "name") (under walked.path (codes "name")) (get_member (codes "name") inner) (quiet_at _ is)
+
+  pub tx_at : get_or (keys_of shape) n any_key ≡ optional (codes "tx") (Kind.Table Shape.Tx) → IfSome (table_at (codes "tx") inner) (Walked Shape.Tx)
+  tx_at is = table_found Shape.Tx (codes "tx") (under walked.path (codes "tx")) (get_member (codes "tx") inner) (quiet_at _ is)
+
+  pub few_statements : (key : List ℕ) → get_or (keys_of shape) n any_key ≡ optional key statements → length (texts_at key inner) ≤ 256
+  few_statements key is =
+      (texts_found Leaf.Statement (λ t. is_some (sentence_in t)) BadWord (λ t. refl) refl (λ z. refl) refl key false 256 (under walked.path key) (get_member key inner) (quiet_at _ is)).few
+
 module _ (inner : Members) where
-  named : (path : List ℕ) → IsQuiet (key_faults walk path inner (required (codes "name") (Kind.Value Leaf.Name))) → is_name (text_at (codes "name") inner) ≡ true
-  named path q =
-      text_found Leaf.Name is_name BadName (λ t. refl) refl (λ z. refl) refl (codes "name") (under path (codes "name")) (get_member (codes "name") inner) q
-
-  pub row_named : Walked Shape.Row inner → is_name (text_at (codes "name") inner) ≡ true
-  row_named w = named w.path (inner_quiet Shape.Row inner w 0 any_key (omega arith))
-
   pub class_named : Walked Shape.Class inner → is_class_name (text_at (codes "name") inner) ≡ true
   class_named w =
       text_found Leaf.ClassName is_class_name BadName (λ t. refl) refl (λ z. refl) refl (codes "name") (under w.path (codes "name")) (get_member (codes "name") inner)
       (inner_quiet Shape.Class inner w 0 any_key (omega arith))
-
-  pub bean_named : Walked Shape.Bean inner → is_name (text_at (codes "name") inner) ≡ true
-  bean_named w = named w.path (inner_quiet Shape.Bean inner w 0 any_key (omega arith))
-
-  pub method_named : Walked Shape.Method inner → is_name (text_at (codes "name") inner) ≡ true
-  method_named w = named w.path (inner_quiet Shape.Method inner w 1 any_key (omega arith))
-
-  pub sync_named : Walked Shape.Sync inner → is_name (text_at (codes "name") inner) ≡ true
-  sync_named w = named w.path (inner_quiet Shape.Sync inner w 0 any_key (omega arith))
-
-  pub listener_named : Walked Shape.Listener inner → is_name (text_at (codes "name") inner) ≡ true
-  listener_named w = named w.path (inner_quiet Shape.Listener inner w 0 any_key (omega arith))
-
-  pub bean_tx : Walked Shape.Bean inner → IfSome (table_at (codes "tx") inner) (Walked Shape.Tx)
-  bean_tx w = table_found Shape.Tx (codes "tx") (under w.path (codes "tx")) (get_member (codes "tx") inner) (inner_quiet Shape.Bean inner w 1 any_key (omega arith))
-
-  pub method_tx : Walked Shape.Method inner → IfSome (table_at (codes "tx") inner) (Walked Shape.Tx)
-  method_tx w = table_found Shape.Tx (codes "tx") (under w.path (codes "tx")) (get_member (codes "tx") inner) (inner_quiet Shape.Method inner w 2 any_key (omega arith))
 
   pub few_rules : Walked Shape.Tx inner → length (texts_at (codes "rules") inner) ≤ 64
   few_rules w =
@@ -285,28 +235,6 @@ module _ (inner : Members) where
   few_calls w =
       (texts_found Leaf.Text (λ t. true) BadWord (λ t. refl) refl (λ z. refl) refl (codes "calls") true 64 (under w.path (codes "calls")) (get_member (codes "calls") inner)
       (inner_quiet Shape.Client inner w 0 any_key (omega arith))).few
-
-  few_statements : (key path : List ℕ) → IsQuiet (found_faults walk (optional key (Kind.Values Leaf.Statement 256)) path (get_member key inner)) → length (texts_at key inner) ≤ 256
-  few_statements key path q =
-      (texts_found Leaf.Statement (λ t. is_some (sentence_in t)) BadWord (λ t. refl) refl (λ z. refl) refl key false 256 path (get_member key inner) q).few
-
-  pub method_few : Walked Shape.Method inner → length (texts_at (codes "body") inner) ≤ 256
-  method_few w = few_statements (codes "body") (under w.path (codes "body")) (inner_quiet Shape.Method inner w 3 any_key (omega arith))
-
-  pub listener_few : Walked Shape.Listener inner → length (texts_at (codes "body") inner) ≤ 256
-  listener_few w = few_statements (codes "body") (under w.path (codes "body")) (inner_quiet Shape.Listener inner w 5 any_key (omega arith))
-
-  pub before_commit_few : Walked Shape.Sync inner → length (texts_at (codes "before_commit") inner) ≤ 256
-  before_commit_few w = few_statements (codes "before_commit") (under w.path (codes "before_commit")) (inner_quiet Shape.Sync inner w 2 any_key (omega arith))
-
-  pub before_completion_few : Walked Shape.Sync inner → length (texts_at (codes "before_completion") inner) ≤ 256
-  before_completion_few w = few_statements (codes "before_completion") (under w.path (codes "before_completion")) (inner_quiet Shape.Sync inner w 3 any_key (omega arith))
-
-  pub after_commit_few : Walked Shape.Sync inner → length (texts_at (codes "after_commit") inner) ≤ 256
-  after_commit_few w = few_statements (codes "after_commit") (under w.path (codes "after_commit")) (inner_quiet Shape.Sync inner w 4 any_key (omega arith))
-
-  pub after_completion_few : Walked Shape.Sync inner → length (texts_at (codes "after_completion") inner) ≤ 256
-  after_completion_few w = few_statements (codes "after_completion") (under w.path (codes "after_completion")) (inner_quiet Shape.Sync inner w 5 any_key (omega arith))
 
   pub pool_within : Walked Shape.Settings inner → is_pool (number_at (codes "pool") (pos 8) inner) ≡ true
   pool_within w = pool_found (codes "pool") (under w.path (codes "pool")) (get_member (codes "pool") inner) (inner_quiet Shape.Settings inner w 0 any_key (omega arith))

@@ -31,7 +31,7 @@ use Rattle.stx_draft.specs.Parts.{text_at, number_at, table_at, texts_at, number
 use Rattle.stx_draft.proofs.DraftLaws.{added, are_names-document, take-first, drop-first}
 use Rattle.stx_judge.specs.Judge
 use Rattle.stx_judge.specs.Stages.{PlacesQuiet}
-use Rattle.stx_read.proofs.AcceptedLaws.{Walked, TablesIn, Accepted, accepted, row_named, class_named, bean_named, method_named, sync_named, listener_named, bean_tx, method_tx, few_rules, few_calls, method_few, listener_few, before_commit_few, before_completion_few, after_commit_few, after_completion_few, pool_within}
+use Rattle.stx_read.proofs.AcceptedLaws.{Walked, TablesIn, Accepted, accepted, name_at, tx_at, few_statements, class_named, few_rules, few_calls, pool_within}
 
 -- ---- numbers
 
@@ -161,32 +161,32 @@ module _ (of : Stage → Bool) (other : of UnknownRef ≡ false) (S : Scenario) 
 
   bean_quiet : (n : ℕ) (table : Members) → Walked Shape.Bean table → Quiet of (Judge.bean_faults S n (Draft.bean_in names table))
   bean_quiet n table w =
-      quiet_append _ _ (quiet_unless _ (is_name (text_at (codes "name") table)) BadName (bean_named table w)) (tx_quiet (entry (codes "beans") n) (table_at (codes "tx") table) (bean_tx table w))
+      quiet_append _ _ (quiet_unless _ (is_name (text_at (codes "name") table)) BadName (name_at table Shape.Bean w 0 (omega arith) refl)) (tx_quiet (entry (codes "beans") n) (table_at (codes "tx") table) (tx_at table Shape.Bean w 1 (omega arith) refl))
 
   method_quiet : (n : ℕ) (table : Members) → Walked Shape.Method table → Quiet of (Judge.method_faults S n (Draft.method_in_table names table))
   method_quiet n table w =
       quiet_append _ _
       (quiet_append _ _
-      (quiet_append _ _ (quiet_other _ _ UnknownRef other) (quiet_unless _ (is_name (text_at (codes "name") table)) BadName (method_named table w)))
-      (tx_quiet (entry (codes "methods") n) (table_at (codes "tx") table) (method_tx table w)))
-      (body_quiet (Draft.method_in_table names table).bean (under (entry (codes "methods") n) (codes "body")) (Some (text_at (codes "bean") table)) (codes "body") table (method_few table w))
+      (quiet_append _ _ (quiet_other _ _ UnknownRef other) (quiet_unless _ (is_name (text_at (codes "name") table)) BadName (name_at table Shape.Method w 1 (omega arith) refl)))
+      (tx_quiet (entry (codes "methods") n) (table_at (codes "tx") table) (tx_at table Shape.Method w 2 (omega arith) refl)))
+      (body_quiet (Draft.method_in_table names table).bean (under (entry (codes "methods") n) (codes "body")) (Some (text_at (codes "bean") table)) (codes "body") table (few_statements table Shape.Method w 3 (omega arith) (codes "body") refl))
 
   sync_quiet : (n : ℕ) (table : Members) → Walked Shape.Sync table → Quiet of (Judge.sync_faults S n (Draft.sync_in names table))
   sync_quiet n table w =
       quiet_append _ _
       (quiet_append _ _
       (quiet_append _ _
-      (quiet_append _ _ (quiet_unless _ (is_name (text_at (codes "name") table)) BadName (sync_named table w))
-      (callback_quiet (under (entry (codes "syncs") n) (codes "before_commit")) None (codes "before_commit") table (before_commit_few table w)))
-      (callback_quiet (under (entry (codes "syncs") n) (codes "before_completion")) None (codes "before_completion") table (before_completion_few table w)))
-      (callback_quiet (under (entry (codes "syncs") n) (codes "after_commit")) None (codes "after_commit") table (after_commit_few table w)))
-      (callback_quiet (under (entry (codes "syncs") n) (codes "after_completion")) None (codes "after_completion") table (after_completion_few table w))
+      (quiet_append _ _ (quiet_unless _ (is_name (text_at (codes "name") table)) BadName (name_at table Shape.Sync w 0 (omega arith) refl))
+      (callback_quiet (under (entry (codes "syncs") n) (codes "before_commit")) None (codes "before_commit") table (few_statements table Shape.Sync w 2 (omega arith) (codes "before_commit") refl)))
+      (callback_quiet (under (entry (codes "syncs") n) (codes "before_completion")) None (codes "before_completion") table (few_statements table Shape.Sync w 3 (omega arith) (codes "before_completion") refl)))
+      (callback_quiet (under (entry (codes "syncs") n) (codes "after_commit")) None (codes "after_commit") table (few_statements table Shape.Sync w 4 (omega arith) (codes "after_commit") refl)))
+      (callback_quiet (under (entry (codes "syncs") n) (codes "after_completion")) None (codes "after_completion") table (few_statements table Shape.Sync w 5 (omega arith) (codes "after_completion") refl))
 
   listener_quiet : (n : ℕ) (table : Members) → Walked Shape.Listener table → Quiet of (Judge.listener_faults S n (Draft.listener_in names table))
   listener_quiet n table w =
       quiet_append _ _
-      (quiet_append _ _ (quiet_unless _ (is_name (text_at (codes "name") table)) BadName (listener_named table w)) (quiet_other _ _ UnknownRef other))
-      (callback_quiet (under (entry (codes "listeners") n) (codes "body")) None (codes "body") table (listener_few table w))
+      (quiet_append _ _ (quiet_unless _ (is_name (text_at (codes "name") table)) BadName (name_at table Shape.Listener w 0 (omega arith) refl)) (quiet_other _ _ UnknownRef other))
+      (callback_quiet (under (entry (codes "listeners") n) (codes "body")) None (codes "body") table (few_statements table Shape.Listener w 5 (omega arith) (codes "body") refl))
 
   client_quiet : (n : ℕ) (table : Members) → Walked Shape.Client table → Quiet of (Judge.client_faults S n (Draft.calls_in names table))
   client_quiet n table w =
@@ -248,7 +248,7 @@ module _ (of : Stage → Bool) (other : of UnknownRef ≡ false) (root : Members
           let few : length (map (number_at (codes "value") (pos 0)) tables) ≤ 10000 = omega (arith, length-map tables (number_at (codes "value") (pos 0)), doc.rows.few) in
           quiet_append _ _ (quiet_few 10000 (codes "rows") (length (map (number_at (codes "value") (pos 0)) tables)) few)
           (quiet_mapped (Walked Shape.Row) (text_at (codes "name")) (λ n name. Judge.name_faults (entry (codes "rows") n) name) 0 tables
-          (λ k row w. quiet_unless _ (is_name (text_at (codes "name") row)) BadName (row_named row w)) doc.rows.walked)
+          (λ k row w. quiet_unless _ (is_name (text_at (codes "name") row)) BadName (name_at row Shape.Row w 0 (omega arith) refl)) doc.rows.walked)
 
   classes_quiet : Quiet of (Judge.classes_faults (drafted root))
   classes_quiet = subst (λ (own : List ClassDecl). Quiet of (count_faults 1000 (codes "classes") (length own) ++ each_from (Judge.class_faults (drafted root)) 0 own)) (sym (classes_of_draft root)) by

@@ -21,15 +21,15 @@ shaped_so S own rows classes valued all few =
       values = rw (all.is, valued) (omega (arith, length-append rows all.more));
       names = rw rest all.names;
       rows = rw (first, rest) (all.new (length S.values));
-      few_events = few.events;
-      few_turns = few.turns;
-      few_rows = few.rows;
-      few_classes = few.classes;
-      few_beans = few.beans;
-      few_methods = few.methods;
-      few_syncs = few.syncs;
-      few_listeners = few.listeners;
-      few_clients = few.clients;
+      few_events = few.0;
+      few_turns = few.1;
+      few_rows = few.2;
+      few_classes = few.3;
+      few_beans = few.4;
+      few_methods = few.5;
+      few_syncs = few.6;
+      few_listeners = few.7;
+      few_clients = few.8;
     }
 
 pub shaped : DraftsAreShaped
@@ -41,14 +41,14 @@ shaped root few =
 
 -- how many parts of each kind there are where no list is too long
 pub few_parts : (S : Scenario) → PlacesInOrder S → IsFew (length S.row_names) → AreFew S
-few_parts S order rows = record {
-  events = omega (arith, order.few_events);
-  turns = omega (arith, order.few_turns);
-  rows = rows;
-  classes = few_classes S order;
-  beans = omega (arith, order.few_beans);
-  methods = omega (arith, order.few_methods);
-  syncs = omega (arith, order.few_syncs);
-  listeners = omega (arith, order.few_listeners);
-  clients = omega (arith, order.few_clients);
-}
+few_parts S order rows = (
+  omega (arith, order.few_events),
+  omega (arith, order.few_turns),
+  rows,
+  few_classes S order,
+  omega (arith, order.few_beans),
+  omega (arith, order.few_methods),
+  omega (arith, order.few_syncs),
+  omega (arith, order.few_listeners),
+  omega (arith, order.few_clients),
+)

@@ -1,5 +1,5 @@
 -- Lists of faults of which none is of the stages that are asked for, and what that says of the places.
-use Rattle.std.proofs.Common.{◌≡◌, ℕ, zero, suc, ◌+◌, ◌≤◌, Bool, true, false, ◌&&◌, ◌||◌, cond, nat_lt, nat_le, List, [], ◌∷◌, ◌++◌, Option, Some, None, map, refl, sym, ◌∙◌, ap, subst, arith}
+use Rattle.std.proofs.Common.{◌≡◌, ℕ, zero, suc, ◌+◌, ◌≤◌, Bool, true, false, ◌&&◌, ◌||◌, cond, nat_lt, nat_le, List, [], ◌∷◌, ◌++◌, Option, Some, None, get_or, map, refl, sym, ◌∙◌, ap, subst, arith}
 use Rattle.std.specs.List.{All, find}
 use Rattle.std.specs.Option.{option_map}
 use Rattle.std.proofs.lemmas.Bool.{false≢true, leb-true}
@@ -33,6 +33,13 @@ mapped_none f None h = refl
 pub some_none : {A : Type 0} (o : Option A) (more : List (Option A)) → first_some (o ∷ more) ≡ None → (o ≡ None) × (first_some more ≡ None)
 some_none (Some a) more h = absurd (none-some a (sym h))
 some_none None more h = (refl, h)
+
+-- a list without anything has nothing at each of its places
+pub none_at : {A : Type 0} (n : ℕ) (os : List (Option A)) → first_some os ≡ None → get_or os n None ≡ None
+none_at n [] h = refl
+none_at n (Some a ∷ os) h = absurd (none-some a (sym h))
+none_at zero (None ∷ os) h = refl
+none_at (suc n) (None ∷ os) h = none_at n os h
 
 -- ---- lists
 

@@ -4,7 +4,7 @@ ghost use Rattle.stx_base.specs.Report as texts;
 ghost use Rattle.stx_trace.specs.LineKinds.{shared_of};
 ghost use Rattle.stx_report.specs.inner.Places.{client_words};
 
-use crate::places::{pool_places, store_places};
+use crate::places::entry_places;
 use crate::text::push_text;
 use std::alloc::Global;
 use stx_base::{ClientLines, Line, Outcome};
@@ -22,8 +22,8 @@ pub fn push_clients(
         out.old.items ++ texts.clients_text scenario.now outcome.now 0 outcome.now.lines) }
 {
     let clients = outcome.lines.len();
-    let pool = pool_places(alloc, clients, outcome.pool.as_slice())?;
-    let store = store_places(alloc, clients, outcome.store.as_slice())?;
+    let pool = entry_places(alloc, clients, outcome.pool.as_slice())?;
+    let store = entry_places(alloc, clients, outcome.store.as_slice())?;
     for (client, lines) in outcome.lines.as_slice().iter().enumerate() {
         let pool = pool[client].as_slice();
         let store = store[client].as_slice();

@@ -1,33 +1,44 @@
 // The places of each client's entries in a history, handed out in one walk over the history.
-ghost use Rattle.std.specs.Prelude.{◌≡◌, ℕ, ◌<◌, IfOk, OnOk, replicate, []};
-ghost use Rattle.stx_base.specs.Report as texts;
-ghost use Rattle.stx_report.specs.inner.Places.{AreEach, AreHandedOut, placed};
+ghost use Rattle.std.specs.Prelude.{◌≡◌, ℕ, ◌<◌, IfOk, OnOk, map, replicate, []};
+ghost use Rattle.stx_report.specs.inner.Places.{AreHandedOut, placed};
 
 use std::alloc::Global;
 use stx_base::{PoolEntry, StoreEntry};
 use stx_scenario::{List, NoMemory};
 
-/// The places, from 1, of the entries of each client in the pool's history.
-pub fn pool_places(
-    alloc: Global,
-    clients: usize,
-    history: &[PoolEntry],
-) -> Result<Vec<List<u64>>, NoMemory>
-    ensures { IfOk result (λ places. AreEach (texts.pool_places history.now) clients places.items) }
-{
-    let makers: Vec<u32> = history.iter().map(|entry| entry.client).collect(alloc)?;
-    handed_out(alloc, clients, makers.as_slice())
+/// An entry of a history, which a client made.
+pub trait Made {
+    ghost maker: { Self → ℕ };
+
+    fn client(&self) -> u32
+        ensures { result ≡ maker self.now };
 }
 
-/// The places, from 1, of the entries of each client in the store's history.
-pub fn store_places(
+impl Made for PoolEntry {
+    ghost maker = { λ entry. entry.client };
+
+    fn client(&self) -> u32 {
+        self.client
+    }
+}
+
+impl Made for StoreEntry {
+    ghost maker = { λ entry. entry.client };
+
+    fn client(&self) -> u32 {
+        self.client
+    }
+}
+
+/// The places, from 1, of the entries of each client in a history.
+pub fn entry_places<E: Made>(
     alloc: Global,
     clients: usize,
-    history: &[StoreEntry],
+    history: &[E],
 ) -> Result<Vec<List<u64>>, NoMemory>
-    ensures { IfOk result (λ places. AreEach (texts.store_places history.now) clients places.items) }
+    ensures { IfOk result (λ places. AreHandedOut (map E.maker history.now) clients places.items) }
 {
-    let makers: Vec<u32> = history.iter().map(|entry| entry.client).collect(alloc)?;
+    let makers: Vec<u32> = history.iter().map(|entry| entry.client()).collect(alloc)?;
     handed_out(alloc, clients, makers.as_slice())
 }
 

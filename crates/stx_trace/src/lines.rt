@@ -1,21 +1,19 @@
 // The text of a line: its words, its place where it has one, and a line feed.
-ghost use Rattle.std.specs.Prelude.{◌≡◌, ◌≢◌, ◌++◌, true, OnOk, OnErr, codes};
+ghost use Rattle.std.specs.Prelude.{◌≡◌, ◌≢◌, ◌++◌, OnOk, OnErr, codes};
 ghost use Rattle.std.specs.Fmt.{decimal, signed_decimal};
 ghost use Rattle.stx_base.specs.Lines as texts;
 ghost use Rattle.stx_base.specs.Lines.{OfNeither};
-ghost use Rattle.stx_trace.specs.LineKinds.{shared_of, is_of_callback};
+ghost use Rattle.stx_trace.specs.LineKinds.{shared_of};
 
 use crate::history::History;
-use crate::names::{
-    bean_name, class_name, event_name, label_name, listener_name, method_at, row_name,
-};
+use crate::names::{bean_name, class_name, label_name, listener_name, method_at, text_at};
 use crate::text::LineText;
 use crate::words::{
     completion_word, decision_word, ending_word, kind_word, propagation_word, where_set,
 };
 use std::alloc::Global;
 use std::mem;
-use stx_base::{Access, Answer, Kind, Label, Line};
+use stx_base::{Access, Answer, Kind, Line};
 use stx_scenario::{ClassNo, MethodNo, NoMemory, Propagation, Scenario};
 
 /// Appends the text of a line: its words, the place of its entry where it is of a shared call, and a line feed.
@@ -127,8 +125,8 @@ fn push_own(text: &mut LineText, line: &Line, scenario: &Scenario) -> Result<(),
         Line::Plain(method) => push_plain(text, method, scenario),
         Line::This(method) => push_this(text, method, scenario),
         Line::Leave { method, thrown } => push_leave(text, method, thrown, scenario),
-        Line::Suspend(label) => labelled(text, "suspend ", label, scenario),
-        Line::Resume(label) => labelled(text, "resume ", label, scenario),
+        Line::Suspend(label) => named(text, "suspend ", label_name(scenario, label)),
+        Line::Resume(label) => named(text, "resume ", label_name(scenario, label)),
         Line::Unbind(connection) => counted(text, "unbind ", connection.into()),
         Line::Bind(connection) => counted(text, "bind ", connection.into()),
         Line::Opened { kind, owns } => push_opened(text, kind, owns),
@@ -138,28 +136,20 @@ fn push_own(text: &mut LineText, line: &Line, scenario: &Scenario) -> Result<(),
         Line::End(ending) => named(text, "end ", ending_word(ending)),
         Line::MarkGlobal => text.push("mark_global"),
         Line::Mark => text.push("mark"),
-        _ => push_callback(text, line, scenario),
-    }
-}
-
-/// The words of a line of a registration or an event, or of a callback.
-#[tactic(auto, unfolding(stx_base::specs::Lines::line_words))]
-fn push_callback(text: &mut LineText, line: &Line, scenario: &Scenario) -> Result<(), NoMemory>
-    requires { is_of_callback line.now ≡ true }
-    ensures before { text.new.before ≡ text.old.before }
-    ensures ok { OnOk result (text.new.line ≡ text.old.line ++ texts.line_words scenario.now line.now) }
-{
-    match *line {
-        Line::Register(label) => labelled(text, "register ", label, scenario),
-        Line::Publish(event) => named(text, "publish ", event_name(scenario, event)),
+        Line::Register(label) => named(text, "register ", label_name(scenario, label)),
+        Line::Publish(event) => named(text, "publish ", text_at(&scenario.events, event.0)),
         Line::Skip(listener) => named(text, "skip ", listener_name(scenario, listener)),
         Line::Listen(listener) => named(text, "listen ", listener_name(scenario, listener)),
-        Line::BeforeCommit(label) => labelled(text, "before_commit ", label, scenario),
-        Line::BeforeCompletion(label) => labelled(text, "before_completion ", label, scenario),
-        Line::AfterCommit(label) => labelled(text, "after_commit ", label, scenario),
+        Line::BeforeCommit(label) => named(text, "before_commit ", label_name(scenario, label)),
+        Line::BeforeCompletion(label) => named(
+            text,
+            "before_completion ",
+            label_name(scenario, label),
+        ),
+        Line::AfterCommit(label) => named(text, "after_commit ", label_name(scenario, label)),
         Line::AfterCompletion { label, committed } => {
             let word = completion_word(committed);
-            labelled_word(text, "after_completion ", label, word, scenario)
+            named_with(text, "after_completion ", label_name(scenario, label), word)
         }
         Line::Swallow(class) => named(text, "swallow ", class_name(scenario, class)),
         _ => unreachable!(),
@@ -184,33 +174,13 @@ fn named(text: &mut LineText, verb: &str, name: &str) -> Result<(), NoMemory>
     text.push(name)
 }
 
-/// A verb with the name of a registration.
-fn labelled(
-    text: &mut LineText,
-    verb: &str,
-    label: Label,
-    scenario: &Scenario,
-) -> Result<(), NoMemory>
+/// A verb with a name, and a word after it.
+fn named_with(text: &mut LineText, verb: &str, name: &str, word: &str) -> Result<(), NoMemory>
     ensures before { text.new.before ≡ text.old.before }
     ensures ok { OnOk result (text.new.line ≡
-        text.old.line ++ (verb.now ++ texts.label_name scenario.now label)) }
+        text.old.line ++ (verb.now ++ name.now ++ codes " " ++ word.now)) }
 {
-    named(text, verb, label_name(scenario, label))
-}
-
-/// A verb with the name of a registration, and a word after it.
-fn labelled_word(
-    text: &mut LineText,
-    verb: &str,
-    label: Label,
-    word: &str,
-    scenario: &Scenario,
-) -> Result<(), NoMemory>
-    ensures before { text.new.before ≡ text.old.before }
-    ensures ok { OnOk result (text.new.line ≡ text.old.line
-        ++ (verb.now ++ texts.label_name scenario.now label ++ codes " " ++ word.now)) }
-{
-    labelled(text, verb, label, scenario)?;
+    named(text, verb, name)?;
     named(text, " ", word)
 }
 
@@ -325,9 +295,9 @@ fn push_access(text: &mut LineText, access: Access, scenario: &Scenario) -> Resu
     ensures ok { OnOk result (text.new.line ≡ text.old.line ++ texts.access_text scenario.now access) }
 {
     match access {
-        Access::Read(row) => named(text, "read ", row_name(scenario, row)),
-        Access::Write(row, value) => push_write(text, row_name(scenario, row), value),
-        Access::Erase(row) => named(text, "erase ", row_name(scenario, row)),
+        Access::Read(row) => named(text, "read ", text_at(&scenario.row_names, row.0)),
+        Access::Write(row, value) => push_write(text, text_at(&scenario.row_names, row.0), value),
+        Access::Erase(row) => named(text, "erase ", text_at(&scenario.row_names, row.0)),
     }
 }
 

@@ -6,8 +6,7 @@ ghost use Rattle.stx_base.specs.Lines as texts;
 use std::alloc::Global;
 use stx_base::Label;
 use stx_scenario::{
-    BeanNo, ClassNo, EventNo, HasName, List, ListenerNo, Method, MethodNo, Name, NoMemory, RowNo,
-    Scenario, SyncNo,
+    BeanNo, ClassNo, HasName, List, ListenerNo, Method, MethodNo, Name, NoMemory, Scenario,
 };
 
 /// The name of the part with this number, in a list of them.
@@ -21,7 +20,7 @@ fn name_at<T: HasName>(parts: &List<T>, number: u32) -> &str
 }
 
 /// The name with this number, in a list of names.
-fn text_at(names: &List<Name>, number: u32) -> &str
+pub(crate) fn text_at(names: &List<Name>, number: u32) -> &str
     ensures { result.now ≡ unwrap_or (slice_get names.now number) [] }
 {
     match names.get(number as usize) {
@@ -42,28 +41,10 @@ pub fn class_name(scenario: &Scenario, no: ClassNo) -> &str
     name_at(&scenario.classes, no.0)
 }
 
-fn sync_name(scenario: &Scenario, no: SyncNo) -> &str
-    ensures { result.now ≡ texts.sync_name scenario.now no }
-{
-    name_at(&scenario.syncs, no.0)
-}
-
 pub fn listener_name(scenario: &Scenario, no: ListenerNo) -> &str
     ensures { result.now ≡ texts.listener_name scenario.now no }
 {
     name_at(&scenario.listeners, no.0)
-}
-
-pub fn event_name(scenario: &Scenario, no: EventNo) -> &str
-    ensures { result.now ≡ texts.event_name scenario.now no }
-{
-    text_at(&scenario.events, no.0)
-}
-
-pub fn row_name(scenario: &Scenario, no: RowNo) -> &str
-    ensures { result.now ≡ texts.row_name scenario.now no }
-{
-    text_at(&scenario.row_names, no.0)
 }
 
 /// The name of a registration's synchronisation or listener.
@@ -71,7 +52,7 @@ pub fn label_name(scenario: &Scenario, label: Label) -> &str
     ensures { result.now ≡ texts.label_name scenario.now label }
 {
     match label {
-        Label::Sync(sync) => sync_name(scenario, sync),
+        Label::Sync(sync) => name_at(&scenario.syncs, sync.0),
         Label::Listener(listener) => listener_name(scenario, listener),
     }
 }

@@ -5,7 +5,7 @@ use Rattle.std.proofs.lemmas.Bool.{and_parts, false≢true}
 use Rattle.std.specs.List.{flat_map, list_all, list_any}
 use Rattle.std.specs.Map.{keys_of as names_of}
 use Rattle.std.specs.Str.{bytes_eq}
-use Rattle.toml.specs.Data.{Data, Members, string, integer, float, boolean, datetime, array, table, as_array, get_member}
+use Rattle.toml.specs.Data.{Data, Members, array, table, as_array, get_member}
 use Rattle.toml.specs.View.{view, items_view, members_view, table_view}
 use Rattle.toml.specs.declared.value.Value.{Value}
 use Rattle.toml.specs.declared.value.Value.TheVariants.{Array, Table}
@@ -73,15 +73,10 @@ module _ (path : List ℕ) (n : ℕ) (items : List Value) (found old : List Faul
       whole : (d : Data) → Some (items_view items) ≡ as_array d
           → value_faults walk (Kind.Values leaf most) path d
           ≡ refused path (count_stage 0 most (length items)) ++ each_item (λ k x. refused (entry path k) (leaf_stage leaf x)) 0 (items_view items)
-      whole (string t) e = cc
-      whole (integer z) e = cc
-      whole (float x) e = cc
-      whole (boolean b) e = cc
-      whole (datetime dt) e = cc
       whole (array more) e =
           let same : more ≡ items_view items = cc in
           rw (same, count_items items)
-      whole (table inner) e = cc
+      whole _ e = cc
 
   -- an array of tables
   pub tables_begin : (shape : Shape) (least most : ℕ) (v : Value) (more : Vec Value Global) → v ≡ Array more → items ≡ more.items → n ≡ length items
@@ -106,39 +101,18 @@ is_shallow kind = is_plain kind
 module _ (V W : TableWalk) where
   plain_value : (kind : Kind) (path : List ℕ) (d : Data) → is_plain kind ≡ true → value_faults V kind path d ≡ value_faults W kind path d
   plain_value (Kind.Value leaf) path d plain = refl
-  plain_value (Kind.Values leaf most) path (string t) plain = refl
-  plain_value (Kind.Values leaf most) path (integer z) plain = refl
-  plain_value (Kind.Values leaf most) path (float x) plain = refl
-  plain_value (Kind.Values leaf most) path (boolean b) plain = refl
-  plain_value (Kind.Values leaf most) path (datetime dt) plain = refl
   plain_value (Kind.Values leaf most) path (array items) plain = refl
-  plain_value (Kind.Values leaf most) path (table inner) plain = refl
-  plain_value (Kind.Table shape) path d plain = absurd (false≢true plain)
-  plain_value (Kind.Tables shape least most) path d plain = absurd (false≢true plain)
+  plain_value (Kind.Values leaf most) path _ plain = refl
+  plain_value _ path d plain = absurd (false≢true plain)
 
   module _ (agree : (path : List ℕ) (inner : Members) → V Shape.Tx path inner ≡ W Shape.Tx path inner) where
     tx_value : (path : List ℕ) (d : Data) → value_faults V (Kind.Table Shape.Tx) path d ≡ value_faults W (Kind.Table Shape.Tx) path d
-    tx_value path (string t) = refl
-    tx_value path (integer z) = refl
-    tx_value path (float x) = refl
-    tx_value path (boolean b) = refl
-    tx_value path (datetime dt) = refl
-    tx_value path (array items) = refl
     tx_value path (table inner) = agree path inner
+    tx_value path _ = refl
 
     shallow_value : (kind : Kind) (path : List ℕ) (d : Data) → is_shallow kind ≡ true → value_faults V kind path d ≡ value_faults W kind path d
-    shallow_value (Kind.Value leaf) path d shallow = plain_value (Kind.Value leaf) path d shallow
-    shallow_value (Kind.Values leaf most) path d shallow = plain_value (Kind.Values leaf most) path d shallow
     shallow_value (Kind.Table Shape.Tx) path d shallow = tx_value path d
-    shallow_value (Kind.Table Shape.Settings) path d shallow = absurd (false≢true shallow)
-    shallow_value (Kind.Table Shape.Row) path d shallow = absurd (false≢true shallow)
-    shallow_value (Kind.Table Shape.Class) path d shallow = absurd (false≢true shallow)
-    shallow_value (Kind.Table Shape.Bean) path d shallow = absurd (false≢true shallow)
-    shallow_value (Kind.Table Shape.Method) path d shallow = absurd (false≢true shallow)
-    shallow_value (Kind.Table Shape.Sync) path d shallow = absurd (false≢true shallow)
-    shallow_value (Kind.Table Shape.Listener) path d shallow = absurd (false≢true shallow)
-    shallow_value (Kind.Table Shape.Client) path d shallow = absurd (false≢true shallow)
-    shallow_value (Kind.Tables shape least most) path d shallow = absurd (false≢true shallow)
+    shallow_value kind path d shallow = plain_value kind path d shallow
 
   -- walks that agree on the kinds of all keys
   agree_on : (keys : List Key) (P : Kind → Bool) → ((kind : Kind) (path : List ℕ) (d : Data) → P kind ≡ true → value_faults V kind path d ≡ value_faults W kind path d)
@@ -158,15 +132,8 @@ tx_plain : list_all (λ key. is_plain key.kind) (keys_of Shape.Tx) ≡ true
 tx_plain = refl
 
 all_shallow : (shape : Shape) → list_all (λ key. is_shallow key.kind) (keys_of shape) ≡ true
-all_shallow Shape.Settings = refl
-all_shallow Shape.Row = refl
-all_shallow Shape.Class = refl
-all_shallow Shape.Bean = refl
-all_shallow Shape.Method = refl
-all_shallow Shape.Sync = refl
-all_shallow Shape.Listener = refl
-all_shallow Shape.Client = refl
 all_shallow Shape.Tx = refl
+all_shallow _ = refl
 
 -- an inner table is walked as any other
 pub walk_table : (shape : Shape) (path : List ℕ) (inner : Members) → walk shape path inner ≡ table_faults walk (keys_of shape) path inner

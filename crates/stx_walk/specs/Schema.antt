@@ -55,18 +55,9 @@ keys_of Shape.Settings =
     ∷ optional (codes "sync") (Kind.Value Leaf.ModeWord)
     ∷ optional (codes "nested") (Kind.Value Leaf.Flag)
     ∷ []
-keys_of Shape.Row =
-    required (codes "name") (Kind.Value Leaf.Name)
-    ∷ required (codes "value") (Kind.Value Leaf.RowValue)
-    ∷ []
-keys_of Shape.Class =
-    required (codes "name") (Kind.Value Leaf.ClassName)
-    ∷ required (codes "parent") (Kind.Value Leaf.Text)
-    ∷ []
-keys_of Shape.Bean =
-    required (codes "name") (Kind.Value Leaf.Name)
-    ∷ optional (codes "tx") (Kind.Table Shape.Tx)
-    ∷ []
+keys_of Shape.Row = required (codes "name") (Kind.Value Leaf.Name) ∷ required (codes "value") (Kind.Value Leaf.RowValue) ∷ []
+keys_of Shape.Class = required (codes "name") (Kind.Value Leaf.ClassName) ∷ required (codes "parent") (Kind.Value Leaf.Text) ∷ []
+keys_of Shape.Bean = required (codes "name") (Kind.Value Leaf.Name) ∷ optional (codes "tx") (Kind.Table Shape.Tx) ∷ []
 keys_of Shape.Method =
     required (codes "bean") (Kind.Value Leaf.Text)
     ∷ required (codes "name") (Kind.Value Leaf.Name)
@@ -89,9 +80,7 @@ keys_of Shape.Listener =
     ∷ optional (codes "fallback") (Kind.Value Leaf.Flag)
     ∷ optional (codes "body") statements
     ∷ []
-keys_of Shape.Client =
-    required (codes "calls") (Kind.Values Leaf.Text MOST_CALLS)
-    ∷ []
+keys_of Shape.Client = required (codes "calls") (Kind.Values Leaf.Text MOST_CALLS) ∷ []
 keys_of Shape.Tx =
     optional (codes "propagation") (Kind.Value Leaf.PropagationWord)
     ∷ optional (codes "read_only") (Kind.Value Leaf.Flag)

@@ -94,7 +94,7 @@ fn is_within(low: i64, high: i64, number: i64) -> bool
 }
 
 /// This stage, unless the test passed.
-fn unless(passed: bool, stage: Stage) -> Option<Stage>
+pub fn unless(passed: bool, stage: Stage) -> Option<Stage>
     ensures { result ≡ unless_passed passed stage }
 {
     if passed { None } else { Some(stage) }

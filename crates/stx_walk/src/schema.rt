@@ -50,17 +50,10 @@ pub enum Leaf {
 pub enum Kind {
     Value(Leaf),
     /// An array of single values, with at most so many entries.
-    Values {
-        leaf: Leaf,
-        most: usize,
-    },
+    Values(Leaf, usize),
     Table(Shape),
     /// An array of tables, with at least and at most so many entries.
-    Tables {
-        shape: Shape,
-        least: usize,
-        most: usize,
-    },
+    Tables(Shape, usize, usize),
 }
 
 /// A key that a table may have.
@@ -72,272 +65,101 @@ pub struct Field {
 }
 
 /// The statements of a body.
-const STATEMENTS: Kind = Kind::Values {
-    leaf: Leaf::Statement,
-    most: MOST_STATEMENTS,
-};
+const STATEMENTS: Kind = Kind::Values(Leaf::Statement, MOST_STATEMENTS);
+
+/// A field, by what it says.
+macro_rules! field {
+    ($key:literal, $required:literal, $kind:expr) => {
+        Field {
+            key: $key,
+            required: $required,
+            kind: $kind,
+        }
+    };
+}
+
+/// A key that a table has to have.
+macro_rules! required {
+    ($key:literal, $kind:expr) => {
+        field!($key, true, $kind)
+    };
+}
+
+/// A key that a table may have.
+macro_rules! optional {
+    ($key:literal, $kind:expr) => {
+        field!($key, false, $kind)
+    };
+}
+
+/// The name of what a table states.
+const NAME: Field = required!("name", Kind::Value(Leaf::Name));
+
+/// Which of the callbacks at one point come first.
+const ORDER: Field = optional!("order", Kind::Value(Leaf::Order));
 
 static ROOT: [Field; 10] = [
-    Field {
-        key: "events",
-        required: false,
-        kind: Kind::Values {
-            leaf: Leaf::Name,
-            most: MOST_EVENTS,
-        },
-    },
-    Field {
-        key: "schedule",
-        required: false,
-        kind: Kind::Values {
-            leaf: Leaf::Client,
-            most: MOST_TURNS,
-        },
-    },
-    Field {
-        key: "settings",
-        required: false,
-        kind: Kind::Table(Shape::Settings),
-    },
-    Field {
-        key: "rows",
-        required: false,
-        kind: Kind::Tables {
-            shape: Shape::Row,
-            least: 0,
-            most: MOST_ROWS,
-        },
-    },
-    Field {
-        key: "classes",
-        required: false,
-        kind: Kind::Tables {
-            shape: Shape::Class,
-            least: 0,
-            most: MOST_CLASSES,
-        },
-    },
-    Field {
-        key: "beans",
-        required: false,
-        kind: Kind::Tables {
-            shape: Shape::Bean,
-            least: 0,
-            most: MOST_BEANS,
-        },
-    },
-    Field {
-        key: "methods",
-        required: false,
-        kind: Kind::Tables {
-            shape: Shape::Method,
-            least: 0,
-            most: MOST_METHODS,
-        },
-    },
-    Field {
-        key: "syncs",
-        required: false,
-        kind: Kind::Tables {
-            shape: Shape::Sync,
-            least: 0,
-            most: MOST_SYNCS,
-        },
-    },
-    Field {
-        key: "listeners",
-        required: false,
-        kind: Kind::Tables {
-            shape: Shape::Listener,
-            least: 0,
-            most: MOST_LISTENERS,
-        },
-    },
-    Field {
-        key: "clients",
-        required: true,
-        kind: Kind::Tables {
-            shape: Shape::Client,
-            least: 1,
-            most: MOST_CLIENTS,
-        },
-    },
+    optional!("events", Kind::Values(Leaf::Name, MOST_EVENTS)),
+    optional!("schedule", Kind::Values(Leaf::Client, MOST_TURNS)),
+    optional!("settings", Kind::Table(Shape::Settings)),
+    optional!("rows", Kind::Tables(Shape::Row, 0, MOST_ROWS)),
+    optional!("classes", Kind::Tables(Shape::Class, 0, MOST_CLASSES)),
+    optional!("beans", Kind::Tables(Shape::Bean, 0, MOST_BEANS)),
+    optional!("methods", Kind::Tables(Shape::Method, 0, MOST_METHODS)),
+    optional!("syncs", Kind::Tables(Shape::Sync, 0, MOST_SYNCS)),
+    optional!(
+        "listeners",
+        Kind::Tables(Shape::Listener, 0, MOST_LISTENERS)
+    ),
+    required!("clients", Kind::Tables(Shape::Client, 1, MOST_CLIENTS)),
 ];
 
 static SETTINGS: [Field; 3] = [
-    Field {
-        key: "pool",
-        required: false,
-        kind: Kind::Value(Leaf::Pool),
-    },
-    Field {
-        key: "sync",
-        required: false,
-        kind: Kind::Value(Leaf::ModeWord),
-    },
-    Field {
-        key: "nested",
-        required: false,
-        kind: Kind::Value(Leaf::Flag),
-    },
+    optional!("pool", Kind::Value(Leaf::Pool)),
+    optional!("sync", Kind::Value(Leaf::ModeWord)),
+    optional!("nested", Kind::Value(Leaf::Flag)),
 ];
 
-static ROW: [Field; 2] = [
-    Field {
-        key: "name",
-        required: true,
-        kind: Kind::Value(Leaf::Name),
-    },
-    Field {
-        key: "value",
-        required: true,
-        kind: Kind::Value(Leaf::RowValue),
-    },
-];
+static ROW: [Field; 2] = [NAME, required!("value", Kind::Value(Leaf::RowValue))];
 
 static CLASS: [Field; 2] = [
-    Field {
-        key: "name",
-        required: true,
-        kind: Kind::Value(Leaf::ClassName),
-    },
-    Field {
-        key: "parent",
-        required: true,
-        kind: Kind::Value(Leaf::Text),
-    },
+    required!("name", Kind::Value(Leaf::ClassName)),
+    required!("parent", Kind::Value(Leaf::Text)),
 ];
 
-static BEAN: [Field; 2] = [
-    Field {
-        key: "name",
-        required: true,
-        kind: Kind::Value(Leaf::Name),
-    },
-    Field {
-        key: "tx",
-        required: false,
-        kind: Kind::Table(Shape::Tx),
-    },
-];
+static BEAN: [Field; 2] = [NAME, optional!("tx", Kind::Table(Shape::Tx))];
 
 static METHOD: [Field; 4] = [
-    Field {
-        key: "bean",
-        required: true,
-        kind: Kind::Value(Leaf::Text),
-    },
-    Field {
-        key: "name",
-        required: true,
-        kind: Kind::Value(Leaf::Name),
-    },
-    Field {
-        key: "tx",
-        required: false,
-        kind: Kind::Table(Shape::Tx),
-    },
-    Field {
-        key: "body",
-        required: false,
-        kind: STATEMENTS,
-    },
+    required!("bean", Kind::Value(Leaf::Text)),
+    NAME,
+    optional!("tx", Kind::Table(Shape::Tx)),
+    optional!("body", STATEMENTS),
 ];
 
 static SYNC: [Field; 6] = [
-    Field {
-        key: "name",
-        required: true,
-        kind: Kind::Value(Leaf::Name),
-    },
-    Field {
-        key: "order",
-        required: false,
-        kind: Kind::Value(Leaf::Order),
-    },
-    Field {
-        key: "before_commit",
-        required: false,
-        kind: STATEMENTS,
-    },
-    Field {
-        key: "before_completion",
-        required: false,
-        kind: STATEMENTS,
-    },
-    Field {
-        key: "after_commit",
-        required: false,
-        kind: STATEMENTS,
-    },
-    Field {
-        key: "after_completion",
-        required: false,
-        kind: STATEMENTS,
-    },
+    NAME,
+    ORDER,
+    optional!("before_commit", STATEMENTS),
+    optional!("before_completion", STATEMENTS),
+    optional!("after_commit", STATEMENTS),
+    optional!("after_completion", STATEMENTS),
 ];
 
 static LISTENER: [Field; 6] = [
-    Field {
-        key: "name",
-        required: true,
-        kind: Kind::Value(Leaf::Name),
-    },
-    Field {
-        key: "event",
-        required: true,
-        kind: Kind::Value(Leaf::Text),
-    },
-    Field {
-        key: "phase",
-        required: false,
-        kind: Kind::Value(Leaf::PhaseWord),
-    },
-    Field {
-        key: "order",
-        required: false,
-        kind: Kind::Value(Leaf::Order),
-    },
-    Field {
-        key: "fallback",
-        required: false,
-        kind: Kind::Value(Leaf::Flag),
-    },
-    Field {
-        key: "body",
-        required: false,
-        kind: STATEMENTS,
-    },
+    NAME,
+    required!("event", Kind::Value(Leaf::Text)),
+    optional!("phase", Kind::Value(Leaf::PhaseWord)),
+    ORDER,
+    optional!("fallback", Kind::Value(Leaf::Flag)),
+    optional!("body", STATEMENTS),
 ];
 
-static CLIENT: [Field; 1] = [Field {
-    key: "calls",
-    required: true,
-    kind: Kind::Values {
-        leaf: Leaf::Text,
-        most: MOST_CALLS,
-    },
-}];
+static CLIENT: [Field; 1] = [required!("calls", Kind::Values(Leaf::Text, MOST_CALLS))];
 
 static TX: [Field; 3] = [
-    Field {
-        key: "propagation",
-        required: false,
-        kind: Kind::Value(Leaf::PropagationWord),
-    },
-    Field {
-        key: "read_only",
-        required: false,
-        kind: Kind::Value(Leaf::Flag),
-    },
-    Field {
-        key: "rules",
-        required: false,
-        kind: Kind::Values {
-            leaf: Leaf::Rule,
-            most: MOST_RULES,
-        },
-    },
+    optional!("propagation", Kind::Value(Leaf::PropagationWord)),
+    optional!("read_only", Kind::Value(Leaf::Flag)),
+    optional!("rules", Kind::Values(Leaf::Rule, MOST_RULES)),
 ];
 
 /// The keys of the root, in walk order, with the most entries of each array.

@@ -1,13 +1,11 @@
+-- The groups of stages one after the other.
 use Rattle.std.proofs.Common.{◌∙◌, sym}
 use Rattle.stx_judge.proofs.OrderLaws.{accepted_places}
-use Rattle.stx_judge.proofs.JudgeLaws.{refused_place, passed_places}
+use Rattle.stx_judge.proofs.JudgeLaws.{judged_groups}
 use Rattle.stx_judge.proofs.judging.judged.Goals as goal
 
-pub returns-in-Some : goal.returns-in-Some
-returns-in-Some c = sym (refused_place c.args.scenario.now _ (sym c.in_ok-fault.ensures ∙ c.in-Some.is))
-
-pub linked_fault-requires-clause-order : goal.linked_fault-requires-clause-order
-linked_fault-requires-clause-order c = accepted_places c.args.scenario.now (sym c.in_ok-fault.ensures ∙ c.in_default.is)
+pub or_linked_fault-requires-clause-order : goal.or_linked_fault-requires-clause-order
+or_linked_fault-requires-clause-order c = λ none. accepted_places c.args.scenario.now (sym c.in_ok-fault.ensures ∙ none)
 
 pub returns : goal.returns
-returns c = c.in_ok-fault-2.ensures ∙ sym (passed_places c.args.scenario.now (sym c.in_ok-fault.ensures ∙ c.in_default.is))
+returns c = rw (judged_groups c.args.scenario.now) (rw c.in_ok-fault.ensures at c.or_linked_fault.ensures)

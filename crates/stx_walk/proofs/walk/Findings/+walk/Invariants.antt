@@ -7,14 +7,14 @@ use Rattle.stx_refusals.specs.Faults.{entry}
 use Rattle.stx_walk.specs.Schema.{key_of}
 use Rattle.stx_walk.specs.Walk.{each_item, entry_faults, value_faults, key_faults, walk}
 use Rattle.stx_walk.specs.inner.Places.{holder_path, place_path}
-use Rattle.stx_walk.proofs.walk.+walk.Given as goal
+use Rattle.stx_walk.proofs.walk.Findings.+walk.Given as goal
 
 abbrev pub invariant-table_faults-loop-field : goal.invariant-table_faults-loop-field
 invariant-table_faults-loop-field l =
-    l.faults ++ flat_map (key_faults walk (holder_path l.holder) (table_view l.table)) (map key_of (drop l.field-index l.fields))
-    ≡ l.fn.faults ++ flat_map (key_faults walk (holder_path l.holder) (table_view l.table)) (map key_of l.fields)
+    l.self.faults ++ flat_map (key_faults walk (holder_path l.holder) (table_view l.table)) (map key_of (drop l.field-index l.fields))
+    ≡ l.fn.self.faults ++ flat_map (key_faults walk (holder_path l.holder) (table_view l.table)) (map key_of l.fields)
 
 abbrev pub invariant-tables_faults-loop-at : goal.invariant-tables_faults-loop-at
 invariant-tables_faults-loop-at l =
-    l.faults ++ each_item (λ n d. entry_faults walk l.shape (entry (place_path l.place) n) d) l.at (items_view (drop l.at l.item-items))
-    ≡ l.fn.faults ++ value_faults walk (Kind.Tables l.shape l.fn.bounds.0 l.fn.bounds.1) (place_path l.place) (view l.value)
+    l.self.faults ++ each_item (λ n d. entry_faults walk l.shape (entry (place_path l.place) n) d) l.at (items_view (drop l.at l.item-items))
+    ≡ l.fn.self.faults ++ value_faults walk (Kind.Tables l.shape l.fn.bounds.0 l.fn.bounds.1) (place_path l.place) (view l.value)

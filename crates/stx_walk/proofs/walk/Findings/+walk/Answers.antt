@@ -8,7 +8,7 @@ use Rattle.std.specs.List.{flat_map}
 use Rattle.stx_walk.specs.Walk.{walk, key_faults}
 use Rattle.stx_walk.specs.inner.Places.{holder_path, place_path}
 use Rattle.stx_walk.proofs.WalkLaws.{fields_end, key_found, key_missing, table_end, tables_begin, entry_table}
-use Rattle.stx_walk.proofs.walk.+walk.Goals as goal
+use Rattle.stx_walk.proofs.walk.Findings.+walk.Goals as goal
 
 pub entry_faults-returns-in-Table : goal.entry_faults-returns-in-Table
 entry_faults-returns-in-Table t c =
@@ -26,20 +26,20 @@ field_faults-returns-in-None t c =
     let field = key_of c.args.field.now in
     let none : get_member field.name (table_view c.args.table.now) ≡ None
     = sym (table_get c.get.result field.name c.args.table.now.entries c.get.ensures.value) ∙ ap (λ r. option_map (λ x. view x.now) r) c.in-None.is in
-    rw (key_missing (holder_path c.args.holder) (table_view c.args.table.now) field none) c.missing_fault.ensures
+    rw (key_missing (holder_path c.args.holder) (table_view c.args.table.now) field none) (rw c.missing_stage.ensures at c.refuse_at.ensures)
 
 pub table_faults-returns : goal.table_faults-returns
 table_faults-returns t c =
     let fields = c.args.fields.now in
     let path = holder_path c.args.holder in
     let inner = table_view c.args.table.now in
-    let known : c.loop-field.faults ≡ c.args.faults.now ++ flat_map (key_faults walk path inner) (map key_of fields)
-    = fields_end (key_faults walk path inner) fields c.loop-field.faults _ c.loop-field.field-index c.loop-field-test.false c.loop-field.invariant in
-    rw (← table_end (map key_of fields) path inner c.loop-field.faults c.args.faults.now known) c.unknown_faults.ensures
+    let known : c.loop-field.self.faults ≡ c.args.self.now.faults ++ flat_map (key_faults walk path inner) (map key_of fields)
+    = fields_end (key_faults walk path inner) fields c.loop-field.self.faults _ c.loop-field.field-index c.loop-field-test.false c.loop-field.invariant in
+    rw (← table_end (map key_of fields) path inner c.loop-field.self.faults c.args.self.now.faults known) c.unknown_faults.ensures
 
 pub tables_faults-loop-at-init : goal.tables_faults-loop-at-init
 tables_faults-loop-at-init t c =
     let items = c.deref-item-items.result.now in
     let many : c.len.result ≡ length items = c.len.ensures ∙ sym c.deref-item-items.ensures.len in
-    tables_begin (place_path c.args.place) c.len.result items c.count_fault.new.faults c.args.faults.now c.args.shape c.args.bounds.0 c.args.bounds.1 c.args.value.now c.in-Array.items c.in-Array.is
-    c.deref-item-items.ensures.value many c.in_ok-count_fault-in-Array.ensures
+    tables_begin (place_path c.args.place) c.len.result items c.refuse_at.new.self.faults c.args.self.now.faults c.args.shape c.args.bounds.0 c.args.bounds.1 c.args.value.now c.in-Array.items c.in-Array.is
+    c.deref-item-items.ensures.value many (rw c.count_stage.ensures at c.in_ok-refuse_at-in-Array.ensures)

@@ -5,9 +5,9 @@ use Rattle.stx_walk.specs.Schema.{key_of}
 use Rattle.stx_walk.specs.Walk.{unknown_faults}
 use Rattle.stx_walk.specs.inner.Places.{holder_path}
 use Rattle.stx_walk.proofs.WalkLaws.{unknown_names}
-use Rattle.stx_walk.proofs.walk.unknown_faults.Given as goal
+use Rattle.stx_walk.proofs.walk.Findings.unknown_faults.Given as goal
 
 abbrev pub invariant-loop-key : goal.invariant-loop-key
 invariant-loop-key l =
-    l.faults ++ unknown_names (map key_of l.fields) (holder_path l.holder) l.key-iterator
-    ≡ l.fn.faults ++ unknown_faults (map key_of l.fields) (holder_path l.holder) (table_view l.table)
+    l.self.faults ++ unknown_names (map key_of l.fields) (holder_path l.holder) l.key-iterator
+    ≡ l.fn.self.faults ++ unknown_faults (map key_of l.fields) (holder_path l.holder) (table_view l.table)
