@@ -1,12 +1,42 @@
 // Why no scenario is read, and the faults that a walk meets.
-ghost use Rattle.std.specs.Prelude.{◌≡◌};
+ghost use Rattle.std.specs.Prelude.{◌≡◌, string_bytes};
 ghost use Rattle.stx_refusals.specs.declared.fault.ReadFault.TheVariants.{NoMemory as WantOfMemory};
 
-use stx_scenario::{Name, NoMemory};
+use std::marker::Model;
+use stx_scenario::NoMemory;
 use thiserror::Error;
 
 /// What a refusal names, as its text does: a path, a class, or a method as `BEAN.METHOD`.
-pub type Argument = Name;
+#[derive(Debug, Drop)]
+pub struct Argument {
+    pub text: String,
+}
+
+impl Model for Argument {
+    ghost use Rattle.std.specs.Prelude.{List, ℕ, string_bytes};
+    ghost use Rattle.std.specs.Coded.{coded_list, coded_ℕ};
+
+    ghost Value = { List ℕ };
+
+    ghost coded = { coded_list coded_ℕ };
+
+    ghost view = { λ argument. string_bytes argument.text };
+}
+
+impl Argument {
+    /// An argument with this text, which takes no memory.
+    pub fn from_text(text: String) -> Self
+        ensures { result ≡ string_bytes text }
+    {
+        Argument { text }
+    }
+
+    pub fn as_str(&self) -> &str
+        ensures { result.now ≡ self.now }
+    {
+        self.text.as_str()
+    }
+}
 
 /// Why the bytes of a file state no scenario, or why a scenario isn't valid: the first stage that refuses anything, at
 /// the first place that it refuses.
