@@ -3,7 +3,7 @@ use Rattle.std.proofs.Common.{List, Option, Some, sym, subst}
 use Rattle.std.specs.Option.{option_map}
 use Rattle.stx_model.specs.Contexts.{Registration}
 use Rattle.stx_machine.specs.Machine.{stack}
-use Rattle.stx_machine.specs.Sound.{CallsRun, Standing, bond_of}
+use Rattle.stx_machine.specs.Sound.{CallsRun, bond_of}
 use Rattle.stx_machine.proofs.Registering.{registers_run}
 use Rattle.stx_steps.proofs.publications.register_listener.Goals as goal
 
@@ -11,12 +11,10 @@ pub returns-in-Some-clause-sound : goal.returns-in-Some-clause-sound
 returns-in-Some-clause-sound c body below later within =
     let S = c.args.setup.now.scenario in
     let m = c.args.machine.now in
-    let had = c.in-Some.registry.now in
-    let at : Option (List Registration) → Standing = λ syncs. record { bond = bond_of m.context.tx; syncs = syncs } in
-    let before : CallsRun S (at (Some had.list)) (stack m.frames) =
-    subst (λ o. CallsRun S (at (option_map (λ r. r.list) o)) (stack m.frames)) (sym c.in-Some.ensures.value) within.calls in
+    let runs : Option (List Registration) → Type 0 = λ syncs. CallsRun S (record { bond = bond_of m.context.tx; syncs = syncs }) (stack m.frames) in
+    let before = subst (λ o. runs (option_map (λ r. r.list) o)) (sym c.in-Some.ensures.value) within.calls in
     record {
-      stage = (later, body, subst (λ list. CallsRun S (at (Some list)) (stack m.frames)) (sym c.register.ensures.list) (registers_run S _ (stack m.frames) below (bond_of m.context.tx) had.list before));
+      stage = (later, body, subst (λ list. runs (Some list)) (sym c.register.ensures.list) (registers_run S _ (stack m.frames) below (bond_of m.context.tx) c.in-Some.registry.now.list before));
       top = within.top;
       holds = within.holds;
     }
