@@ -1,6 +1,6 @@
 -- The end of a scope: which actions are due, before and after each round.
-use Rattle.std.proofs.Common.{◌≡◌, ℕ, zero, suc, Bool, true, false, List, [], ◌∷◌, Option, Some, None, refl, sym, ap, ◌∙◌}
-use Rattle.std.specs.Prelude.{◌||◌, ◌&&◌, not, ⊤, IfSome}
+use Rattle.std.proofs.Common.{◌≡◌, ℕ, zero, suc, Bool, true, false, List, [], ◌∷◌, Option, Some, None, refl, sym, ap, subst, ◌∙◌}
+use Rattle.std.specs.Prelude.{◌||◌, ◌&&◌, not, ⊤}
 use Rattle.std.specs.Option.{is_some}
 use Rattle.std.proofs.lemmas.Bool.{false≢true, and_parts}
 use Rattle.stx_scenario.specs.declared.numbers.ClassNo.{ClassNo}
@@ -17,6 +17,38 @@ use Rattle.stx_model.specs.Scopes.{Scope, acts, completes, later_or}
 use Rattle.stx_manager.specs.Scopes.{OpenScope}
 use Rattle.stx_machine.specs.Machine.{rest_after, round_if, round_in}
 use Rattle.stx_machine.specs.Sound.{Bond, Unbound, Runs, Ended, Standing, below_rest, below_scope, due_after, due_in, ends_syncs, has_own, has_own_of, has_point, is_due, is_point, is_unbound, may_end, releases, standing_under, without_own}
+
+-- ---- case by case
+
+each_kind : (P : Kind → Type 0) → P Kind.Fresh → P Kind.Join → P Kind.Point → P Kind.Empty → (kind : Kind) → P kind
+each_kind P fresh join point empty Kind.Fresh = fresh
+each_kind P fresh join point empty Kind.Join = join
+each_kind P fresh join point empty Kind.Point = point
+each_kind P fresh join point empty Kind.Empty = empty
+
+each_ending : (P : Ending → Type 0) → P Ending.Commit → P Ending.Rollback → P Ending.Unexpected → (e : Ending) → P e
+each_ending P commit rollback unexpected Ending.Commit = commit
+each_ending P commit rollback unexpected Ending.Rollback = rollback
+each_ending P commit rollback unexpected Ending.Unexpected = unexpected
+
+-- what holds of each action that is a round, with the round that it is
+pub each_round : (P : Action → Round → Bool → Type 0) → P Action.RoundBeforeCompletion Round.BeforeCompletion false → P Action.RoundAfterCommit Round.AfterCommit true
+    → ((committed : Bool) → P (Action.RoundAfterCompletion committed) Round.AfterCompletion committed)
+    → (a : Action) (round : Round) (committed : Bool) → round_in a ≡ Some (round, committed) → P a round committed
+each_round P before commit completion Action.RoundBeforeCompletion round committed is =
+    let same : ◌≡◌ {A = Round × Bool} (Round.BeforeCompletion, false) (round, committed) = cc in subst (λ r. P Action.RoundBeforeCompletion r.0 r.1) same before
+each_round P before commit completion Action.RoundAfterCommit round committed is =
+    let same : ◌≡◌ {A = Round × Bool} (Round.AfterCommit, true) (round, committed) = cc in subst (λ r. P Action.RoundAfterCommit r.0 r.1) same commit
+each_round P before commit completion (Action.RoundAfterCompletion told) round committed is =
+    let same : ◌≡◌ {A = Round × Bool} (Round.AfterCompletion, told) (round, committed) = cc in subst (λ r. P (Action.RoundAfterCompletion told) r.0 r.1) same (completion told)
+each_round P before commit completion Action.CommitStore round committed is = cc
+each_round P before commit completion Action.RollbackStore round committed is = cc
+each_round P before commit completion Action.BackToPoint round committed is = cc
+each_round P before commit completion Action.ReleasePoint round committed is = cc
+each_round P before commit completion Action.MarkGlobally round committed is = cc
+each_round P before commit completion Action.ThrowUnexpected round committed is = cc
+each_round P before commit completion Action.GiveBack round committed is = cc
+each_round P before commit completion Action.Resumption round committed is = cc
 
 -- ---- how a scope may end
 
@@ -36,32 +68,18 @@ ends_so Kind.Empty rolls local context = may_unless (rolls || local)
 -- of all completions that of a nested scope releases a savepoint
 pub releases_point : (kind : Kind) (e : Ending) → releases (completion kind e) ≡ is_point kind
 unfolding completion
-releases_point Kind.Fresh Ending.Commit = refl
-releases_point Kind.Fresh Ending.Rollback = refl
-releases_point Kind.Fresh Ending.Unexpected = refl
-releases_point Kind.Join Ending.Commit = refl
-releases_point Kind.Join Ending.Rollback = refl
-releases_point Kind.Join Ending.Unexpected = refl
-releases_point Kind.Point Ending.Commit = refl
-releases_point Kind.Point Ending.Rollback = refl
-releases_point Kind.Point Ending.Unexpected = refl
-releases_point Kind.Empty Ending.Commit = refl
-releases_point Kind.Empty Ending.Rollback = refl
-releases_point Kind.Empty Ending.Unexpected = refl
+releases_point Kind.Fresh = each_ending _ refl refl refl
+releases_point Kind.Join = each_ending _ refl refl refl
+releases_point Kind.Point = each_ending _ refl refl refl
+releases_point Kind.Empty = each_ending _ refl refl refl
 
 pub refused_releases : (kind : Kind) → releases (completion_refused kind) ≡ false
 unfolding completion
-refused_releases Kind.Fresh = refl
-refused_releases Kind.Join = refl
-refused_releases Kind.Point = refl
-refused_releases Kind.Empty = refl
+refused_releases = each_kind _ refl refl refl refl
 
 pub refused_ends : (kind : Kind) → ends_syncs (completion_refused kind) ≡ true
 unfolding completion
-refused_ends Kind.Fresh = refl
-refused_ends Kind.Join = refl
-refused_ends Kind.Point = refl
-refused_ends Kind.Empty = refl
+refused_ends = each_kind _ refl refl refl refl
 
 -- a scope that owns registrations has a last round
 pub owned_ends : (kind : Kind) (e : Ending) (owns older : Bool) (standing : Standing) → may_end kind e ≡ true → has_own_of kind owns older standing ≡ true
@@ -79,12 +97,13 @@ owned_ends Kind.Point e true older standing may own =
     let (point, alone) = and_parts (has_point standing.bond) _ own in absurd (false≢true (and_parts (not older) false alone).1)
 
 -- what stands below a scope stands below its completion
-pub below_completion : (scope : OpenScope) (e : Ending) (standing : Standing) → may_end scope.kind e ≡ true → has_own scope standing ≡ true
-    → below_scope scope standing ≡ below_rest scope (completion scope.kind e) standing
-below_completion scope e standing may own =
+pub below_completion : (scope : OpenScope) (e : Ending) (standing : Standing) (rest : List Action) → completion scope.kind e ≡ rest → may_end scope.kind e ≡ true → has_own scope standing ≡ true
+    → below_scope scope standing ≡ below_rest scope rest standing
+below_completion scope e standing rest left may own =
     ap (λ b. standing_under scope.suspended (without_own b scope.owns standing)) (sym (releases_point scope.kind e))
     ∙ ap (λ b. standing_under scope.suspended (without_own (releases (completion scope.kind e)) b standing))
     (owned_ends scope.kind e scope.owns (is_some scope.suspended) standing may own)
+    ∙ ap (λ rest. below_rest scope rest standing) left
 
 commit_ends : (kind : Kind) (e : Ending) → has_before_commit kind e ≡ true → ends_syncs (completion kind e) ≡ true
 unfolding completion
@@ -114,21 +133,15 @@ fresh_due false false Ending.Unexpected fits = refl
 
 join_due : (owns active : Bool) (bond : Bond) (e : Ending) → is_due owns false bond active (completion Kind.Join e) ≡ true
 unfolding completion
-join_due owns active bond Ending.Commit = refl
-join_due owns active bond Ending.Rollback = refl
-join_due owns active bond Ending.Unexpected = refl
+join_due owns active bond = each_ending _ refl refl refl
 
 running_due : (owns active : Bool) (points : ℕ) (e : Ending) → is_due owns false (Runs (suc points)) active (completion Kind.Point e) ≡ true
 unfolding completion
-running_due owns active points Ending.Commit = refl
-running_due owns active points Ending.Rollback = refl
-running_due owns active points Ending.Unexpected = refl
+running_due owns active points = each_ending _ refl refl refl
 
 ended_due : (owns active : Bool) (points : ℕ) (e : Ending) → is_due owns false (Ended (suc points)) active (completion Kind.Point e) ≡ true
 unfolding completion
-ended_due owns active points Ending.Commit = refl
-ended_due owns active points Ending.Rollback = refl
-ended_due owns active points Ending.Unexpected = refl
+ended_due owns active points = each_ending _ refl refl refl
 
 -- an empty scope that suspended nothing
 within_due : (owns active : Bool) (bond : Bond) (e : Ending) → may_end Kind.Empty e ≡ true → is_due owns false bond active (completion Kind.Empty e) ≡ true
@@ -205,10 +218,7 @@ no_point Kind.Join e is = refl
 no_point Kind.Point e is = absurd (false≢true is)
 
 may_roll_back : (kind : Kind) → may_end kind Ending.Rollback ≡ true
-may_roll_back Kind.Fresh = refl
-may_roll_back Kind.Join = refl
-may_roll_back Kind.Point = refl
-may_roll_back Kind.Empty = refl
+may_roll_back = each_kind _ refl refl refl refl
 
 -- before the before_commit round of a scope that is to commit
 pub due_before_commit : (scope : OpenScope) (standing : Standing) (e : Ending) → has_before_commit scope.kind e ≡ true → may_end scope.kind e ≡ true
@@ -296,18 +306,11 @@ module _ (S : Scenario) (calls : Calls) where
     after_completion committed = after_completion_of scope.owns committed
 
     -- a round, whichever it is, and the actions after it
-    pub round_first : (a : Action) → IfSome (round_in a) (λ r. acts S calls scope (a ∷ rest) x st ≡ finally (round_if S calls scope.owns r.0 r.1 st) (after scope.kind r.0))
-    round_first Action.RoundBeforeCompletion = before_completion false
-    round_first Action.RoundAfterCommit = after_commit true
-    round_first (Action.RoundAfterCompletion committed) = after_completion committed
-    round_first Action.CommitStore = tt
-    round_first Action.RollbackStore = tt
-    round_first Action.BackToPoint = tt
-    round_first Action.ReleasePoint = tt
-    round_first Action.MarkGlobally = tt
-    round_first Action.ThrowUnexpected = tt
-    round_first Action.GiveBack = tt
-    round_first Action.Resumption = tt
+    pub round_first : (a : Action) (round : Round) (committed : Bool) → round_in a ≡ Some (round, committed)
+        → acts S calls scope (a ∷ rest) x st ≡ finally (round_if S calls scope.owns round committed st) (after scope.kind round)
+    round_first =
+        each_round (λ a round committed. acts S calls scope (a ∷ rest) x st ≡ finally (round_if S calls scope.owns round committed st) (after scope.kind round))
+        (before_completion false) (after_commit true) after_completion
 
   -- the before_commit round of a scope that is to commit
   module _ (scope : Scope) (e : Ending) (x : Option ClassNo) (st : State) where
@@ -329,15 +332,17 @@ module _ (S : Scenario) (calls : Calls) where
         (λ y. acts S calls scope (rest_after scope.kind Round.BeforeCommit (completion scope.kind e) y) (later_or y x)) after_refused
     commits_by false committed is = absurd (false≢true is)
 
-    pub commits : (committed : Bool) → has_before_commit scope.kind e ≡ true → completes S calls scope e x st
-        ≡ finally (round_if S calls scope.owns Round.BeforeCommit committed st) (λ y. acts S calls scope (rest_after scope.kind Round.BeforeCommit (completion scope.kind e) y) (later_or y x))
+    pub commits : (committed : Bool) (rest : List Action) → has_before_commit scope.kind e ≡ true → completion scope.kind e ≡ rest
+        → completes S calls scope e x st ≡ finally (round_if S calls scope.owns Round.BeforeCommit committed st) (λ y. acts S calls scope (rest_after scope.kind Round.BeforeCommit rest y) (later_or y x))
     unfolding completes
-    commits committed is = commits_by (has_before_commit scope.kind e) committed is
+    commits committed rest is left =
+        commits_by (has_before_commit scope.kind e) committed is
+        ∙ ap (λ rest. finally (round_if S calls scope.owns Round.BeforeCommit committed st) (λ y. acts S calls scope (rest_after scope.kind Round.BeforeCommit rest y) (later_or y x))) left
 
     without_by : (b : Bool) → b ≡ false → completing b ≡ acts S calls scope (completion scope.kind e) x st
     without_by false is = refl
     without_by true is = absurd (false≢true (sym is))
 
-    pub completes_at_once : has_before_commit scope.kind e ≡ false → completes S calls scope e x st ≡ acts S calls scope (completion scope.kind e) x st
+    pub completes_at_once : (rest : List Action) → has_before_commit scope.kind e ≡ false → completion scope.kind e ≡ rest → completes S calls scope e x st ≡ acts S calls scope rest x st
     unfolding completes
-    completes_at_once is = without_by (has_before_commit scope.kind e) is
+    completes_at_once rest is left = without_by (has_before_commit scope.kind e) is ∙ ap (λ rest. acts S calls scope rest x st) left

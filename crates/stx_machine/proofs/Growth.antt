@@ -1,6 +1,5 @@
 -- What is left of a script begins with the lines that were said; and where a machine waits for a shared call, it stops there.
-use Rattle.std.proofs.Common.{◌≡◌, ◌∙◌, ◌+◌, ◌-◌, ◌==◌, ◌<◌, ◌≤◌, ◌∷◌, [], ℕ, Bool, true, false, List, length, Option, Some, None, refl, sym, ap, arith, eq-eqb, eqb-true, length-append}
-use Rattle.std.proofs.lemmas.Bool.{false≢true}
+use Rattle.std.proofs.Common.{◌≡◌, ◌∙◌, ◌+◌, ◌∷◌, [], ℕ, Bool, false, List, Option, Some, None, refl, ap}
 use Rattle.std.specs.Prelude.{drop, slice_get, unwrap_or}
 use Rattle.std.specs.Option.{option_map}
 use Rattle.stx_scenario.specs.declared.numbers.ClassNo.{ClassNo}
@@ -40,8 +39,9 @@ use Rattle.stx_machine.specs.declared.stage.Place.{Place}
 use Rattle.stx_machine.specs.declared.stage.Stage.{Stage}
 use Rattle.stx_machine.specs.declared.stage.Then.{Then}
 use Rattle.stx_machine.specs.declared.tokens.Tokens.{Tokens}
-use Rattle.stx_machine.specs.Machine.{Call, Goes, Moves, Says, Waits, Shrinks, accesses, attribute_of, begun, after_round, call_after, caller_rank, calls_at, completes, connects, course_after, does, falls, frame_after, has_failed, in_round, inside, last_told, later_calls, later_deeds, left, of_call, of_top, opened, phase_after, piece, pointed, publication_of, rest_after, rest_of, unwound, resumes_call, round_after, rounds_call, row_access, run, scope_of, stack, state_at, statements, stops, tells, tells_resumed, thrown_of, told_after, untold, want_at, want_of, whole_round}
-use Rattle.stx_machine.specs.Sound.{CallCompletes, CallOpens, CallPoints, IsSound, Standing, StageFits, standing_of}
+use Rattle.stx_machine.specs.Machine.{Call, Innermost, accesses, attribute_of, begun, after_round, call_after, caller_rank, calls_at, completes, connects, course_after, does, falls, frame_after, has_failed, in_round, inside, last_told, later_calls, later_deeds, of_call, of_top, opened, phase_after, piece, pointed, publication_of, rest_after, rest_of, unwound, resumes_call, round_after, rounds_call, row_access, run, scope_of, stack, state_at, statements, stops, tells, tells_resumed, thrown_of, told_after, untold, want_at, want_of, whole_round, onward}
+use Rattle.stx_machine.specs.Sound.{IsSound, StageFits}
+use Rattle.stx_machine.proofs.Stacks.{each_innermost}
 
 -- ---- accesses
 
@@ -289,28 +289,8 @@ module _ (S : Scenario) (lines : List Line) (context : Context) (local : Option 
   here : State
   here = still lines context local
 
-  opens_stops : (fs : List Call) → CallOpens S fs → (stage : Stage) (w : Want) → AsksIn S stage w here → of_top S fs stage here ≡ Stops w here
-  opens_stops [] calls stage w asks = absurd calls
-  opens_stops (Frame.Body m place catch (Some i) ∷ fs) calls stage w asks = asks m i
-  opens_stops (Frame.Body m place catch None ∷ fs) calls stage w asks = absurd calls
-  opens_stops (Frame.Round round todo at place x ∷ fs) calls stage w asks = absurd calls
-  opens_stops (Frame.Now listener place ∷ fs) calls stage w asks = absurd calls
-
-  points_stops : (fs : List Call) (standing : Standing) → CallPoints S standing fs → (stage : Stage) (w : Want) → AsksIn S stage w here
-      → of_top S fs stage here ≡ Stops w here
-  points_stops [] standing calls stage w asks = absurd calls
-  points_stops (Frame.Body m place catch (Some i) ∷ fs) standing calls stage w asks = asks m i
-  points_stops (Frame.Body m place catch None ∷ fs) standing calls stage w asks = absurd calls
-  points_stops (Frame.Round round todo at place x ∷ fs) standing calls stage w asks = absurd calls
-  points_stops (Frame.Now listener place ∷ fs) standing calls stage w asks = absurd calls
-
-  completes_stops : (fs : List Call) (standing : Standing) → CallCompletes S standing fs → (stage : Stage) (w : Want) → AsksIn S stage w here
-      → of_top S fs stage here ≡ Stops w here
-  completes_stops [] standing calls stage w asks = absurd calls
-  completes_stops (Frame.Body m place catch (Some i) ∷ fs) standing calls stage w asks = asks m i
-  completes_stops (Frame.Body m place catch None ∷ fs) standing calls stage w asks = absurd calls
-  completes_stops (Frame.Round round todo at place x ∷ fs) standing calls stage w asks = absurd calls
-  completes_stops (Frame.Now listener place ∷ fs) standing calls stage w asks = absurd calls
+  top_stops : (P : MethodNo → ℕ → Option ClassNo → Interception → List Call → Type 0) (fs : List Call) → Innermost P fs → (stage : Stage) (w : Want) → AsksIn S stage w here → of_top S fs stage here ≡ Stops w here
+  top_stops P fs is stage w asks = each_innermost P (λ fs. of_top S fs stage here ≡ Stops w here) (λ m place catch i fs held. asks m i) fs is
 
   begins_stops : (c : ℕ) → AsksIn S (Stage.Beginning c) Want.Begin here
   unfolding begins here
@@ -344,24 +324,24 @@ module _ (S : Scenario) (lines : List Line) (context : Context) (local : Option 
   piece_stops fs (Stage.Accessing place a d) carried fits waits going = accesses_stops place a d
   piece_stops fs (Stage.Returning c x) carried fits waits going = unasked (Want.Give c) (λ _. concludes x) (still lines context local) refl
   piece_stops fs Stage.Taking carried fits waits going =
-      opens_stops fs fits.1 Stage.Taking Want.Take (λ m i. unasked Want.Take (on_take (begun S m i)) here refl)
-  piece_stops fs (Stage.Beginning c) carried fits waits going = opens_stops fs fits.1 (Stage.Beginning c) Want.Begin (begins_stops c)
+      top_stops _ fs fits.1 Stage.Taking Want.Take (λ m i. unasked Want.Take (on_take (begun S m i)) here refl)
+  piece_stops fs (Stage.Beginning c) carried fits waits going = top_stops _ fs fits.1 (Stage.Beginning c) Want.Begin (begins_stops c)
   piece_stops fs (Stage.Pointing t) carried fits waits going =
-      points_stops fs (standing_of carried) fits (Stage.Pointing t) (Want.Point t) (λ m i. unasked (Want.Point t) (λ _. pointed S m) here refl)
+      top_stops _ fs fits (Stage.Pointing t) (Want.Point t) (λ m i. unasked (Want.Point t) (λ _. pointed S m) here refl)
   piece_stops fs (Stage.Committing t) carried fits waits going =
-      completes_stops fs (standing_of carried) fits (Stage.Committing t) (Want.Commit t)
+      top_stops _ fs fits (Stage.Committing t) (Want.Commit t)
       (λ m i. unasked (Want.Commit t) (λ _. completes S m i (rest_of i.phase)) here refl)
   piece_stops fs (Stage.RollingBack t) carried fits waits going =
-      completes_stops fs (standing_of carried) fits (Stage.RollingBack t) (Want.Rollback t)
+      top_stops _ fs fits (Stage.RollingBack t) (Want.Rollback t)
       (λ m i. unasked (Want.Rollback t) (λ _. completes S m i (rest_of i.phase)) here refl)
   piece_stops fs (Stage.GoingBack t) carried fits waits going =
-      completes_stops fs (standing_of carried) fits (Stage.GoingBack t) (Want.BackTo t)
+      top_stops _ fs fits (Stage.GoingBack t) (Want.BackTo t)
       (λ m i. unasked (Want.BackTo t) (λ _ back. completes S m i (rest_of i.phase) (with_context (with_global_mark false back.context) back)) here refl)
   piece_stops fs (Stage.Releasing t) carried fits waits going =
-      completes_stops fs (standing_of carried) fits (Stage.Releasing t) (Want.Release t)
+      top_stops _ fs fits (Stage.Releasing t) (Want.Release t)
       (λ m i. unasked (Want.Release t) (λ _. completes S m i (rest_of i.phase)) here refl)
   piece_stops fs (Stage.GivingBack given) carried fits waits going =
-      completes_stops fs (standing_of carried) fits.0 (Stage.GivingBack given) (Want.Give given.connection)
+      top_stops _ fs fits.0 (Stage.GivingBack given) (Want.Give given.connection)
       (λ m i. unasked (Want.Give given.connection) (λ _. completes S m i (rest_of i.phase)) here refl)
   piece_stops fs Stage.Done carried fits waits going = done_stops fs
   piece_stops fs Stage.Failed carried fits waits going = cc
@@ -371,6 +351,6 @@ pub run_stops : (S : Scenario) (n : ℕ) (m : Machine) (tokens : Tokens) → IsS
     → run S n m [] [] ≡ Stops (want_of m.stage) (state_at m [] [])
 run_stops S n m tokens sound waits going =
     let st = state_at m [] [] in
-    ap (λ r. later_calls S n m.top (unwound S (stack m.frames) r))
+    ap (onward S n m)
     (piece_stops S m.lines.items st.context m.local (stack m.frames) m.stage m.context sound.stage waits going)
     ∙ ap (later_calls S n m.top) (resume_stops S (stack m.frames) (want_of m.stage) st)

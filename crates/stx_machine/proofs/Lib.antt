@@ -10,3 +10,4 @@ pub mod Growth
 pub mod Registering
 pub mod Telling
 pub mod Standings
+pub mod Completing

@@ -1,5 +1,5 @@
 -- What the table of openings tells of the context.
-use Rattle.std.proofs.Common.{◌≡◌, ◌<◌, [], Bool, true, false, List, Option, Some, None, refl, sym, ap, ◌∙◌, subst, arith}
+use Rattle.std.proofs.Common.{◌≡◌, ℕ, ◌<◌, [], Bool, true, false, List, Option, Some, None, refl, sym, ap, ◌∙◌, subst, arith}
 use Rattle.std.specs.Prelude.{IsSome}
 use Rattle.std.specs.Option.{is_some, option_map}
 use Rattle.stx_conn.specs.Bindings.{Binding, live}
@@ -10,15 +10,19 @@ use Rattle.stx_scenario.specs.declared.scenario.Propagation.{Propagation}
 use Rattle.stx_scenario.specs.declared.scenario.Settings.{Settings}
 use Rattle.stx_scenario.specs.declared.scenario.SyncMode.{SyncMode}
 use Rattle.stx_scenario.specs.declared.scenario.TxAttr.{TxAttr}
+use Rattle.stx_base.specs.declared.history.PoolNote.{PoolNote}
+use Rattle.stx_base.specs.declared.history.StoreNote.{StoreNote}
 use Rattle.stx_base.specs.declared.manager.Opening.{Opening}
 use Rattle.stx_scenario.specs.declared.numbers.MethodNo.{MethodNo}
 use Rattle.stx_scenario.specs.declared.scenario.Scenario.{Scenario}
 use Rattle.stx_machine.specs.declared.stage.Stage.{Stage}
-use Rattle.stx_machine.specs.Machine.{attribute_of, suspends, told_by}
+use Rattle.stx_machine.specs.declared.machine.Machine.{Machine}
+use Rattle.stx_machine.specs.Machine.{attribute_of, inside, onward_caught, opened, state_before, statements, suspends, told_by}
 use Rattle.stx_model.specs.Contexts.{Context, Live, Registration, bare, ordered, registered}
 use Rattle.stx_model.specs.Meanings.{State}
 use Rattle.stx_model.specs.Opening.{opening, opening_in, opening_without, opening_within, owns_empty}
-use Rattle.stx_model.specs.Scopes.{suspend, suspended}
+use Rattle.stx_model.specs.Scopes.{opens, suspend, suspended}
+use Rattle.stx_context.specs.Carrying.{context_of}
 
 module _ (settings : Settings) where
   -- ---- refusals
@@ -27,11 +31,12 @@ module _ (settings : Settings) where
   known x y is less =
       let same : x ≡ y = cc in subst (λ z. z.0 < 17) same less
 
-  known_point : (nested mark : Bool) (x y z : ClassNo) → x.0 < 17 → y.0 < 17
-      → elim nested as (λ _. Opening) [ false ↦ Opening.Refuse x | true ↦ elim mark as (λ _. Opening) [ true ↦ Opening.Refuse y | false ↦ Opening.Point ] ] ≡ Opening.Refuse z → z.0 < 17
-  known_point false mark x y z first second is = known x z is first
-  known_point true true x y z first second is = known y z is second
-  known_point true false x y z first second is = cc
+  -- a nested call is refused, or opens a savepoint
+  nested_is : (nested mark : Bool) (x y : ClassNo) (o : Opening) {X : Type 0} → (Opening.Refuse x ≡ o → X) → (Opening.Refuse y ≡ o → X) → (Opening.Point ≡ o → X)
+      → elim nested as (λ _. Opening) [ false ↦ Opening.Refuse x | true ↦ elim mark as (λ _. Opening) [ true ↦ Opening.Refuse y | false ↦ Opening.Point ] ] ≡ o → X
+  nested_is false mark x y o refused marked opened is = refused is
+  nested_is true true x y o refused marked opened is = marked is
+  nested_is true false x y o refused marked opened is = opened is
 
   known_within : (live : Live) (p : Propagation) (x : ClassNo) → opening_within settings live p ≡ Opening.Refuse x → x.0 < 17
   known_within live Propagation.Required x is = cc
@@ -40,7 +45,7 @@ module _ (settings : Settings) where
   known_within live Propagation.RequiresNew x is = cc
   known_within live Propagation.NotSupported x is = cc
   known_within live Propagation.Never x is = known _ x is (omega arith)
-  known_within live Propagation.Nested x is = known_point settings.nested live.mark _ _ x (omega arith) (omega arith) is
+  known_within live Propagation.Nested x is = nested_is settings.nested live.mark _ _ _ (λ same. known _ x same (omega arith)) (λ same. known _ x same (omega arith)) (λ same. cc) is
 
   known_without : (context : Context) (p : Propagation) (x : ClassNo) → opening_without settings context p ≡ Opening.Refuse x → x.0 < 17
   known_without context Propagation.Required x is = cc
@@ -71,12 +76,6 @@ module _ (settings : Settings) where
   always owns o s is not =
       let same : true ≡ s = cc in absurd (false≢true (sym not ∙ sym same))
 
-  no_fresh_point : (nested mark s o : Bool) (x y : ClassNo) {X : Type 0}
-      → elim nested as (λ _. Opening) [ false ↦ Opening.Refuse x | true ↦ elim mark as (λ _. Opening) [ true ↦ Opening.Refuse y | false ↦ Opening.Point ] ] ≡ Opening.Fresh s o → X
-  no_fresh_point false mark s o x y is = cc
-  no_fresh_point true true s o x y is = cc
-  no_fresh_point true false s o x y is = cc
-
   fresh_within : (live : Live) (p : Propagation) (s o : Bool) {X : Type 0} → opening_within settings live p ≡ Opening.Fresh s o → s ≡ false → X
   fresh_within live Propagation.Required s o is not = cc
   fresh_within live Propagation.Supports s o is not = cc
@@ -84,7 +83,7 @@ module _ (settings : Settings) where
   fresh_within live Propagation.RequiresNew s o is not = always _ o s is not
   fresh_within live Propagation.NotSupported s o is not = cc
   fresh_within live Propagation.Never s o is not = cc
-  fresh_within live Propagation.Nested s o is not = no_fresh_point settings.nested live.mark s o _ _ is
+  fresh_within live Propagation.Nested s o is not = nested_is settings.nested live.mark _ _ _ (λ same. cc) (λ same. cc) (λ same. cc) is
 
   fresh_without : (context : Context) (p : Propagation) (s o : Bool) → opening_without settings context p ≡ Opening.Fresh s o → s ≡ false → context.syncs ≡ None
   fresh_without context Propagation.Required s o is not = none_active context.syncs _ o s is not
@@ -122,12 +121,6 @@ module _ (settings : Settings) where
   apart owns s o is not =
       let same : true ≡ s = cc in absurd (false≢true (sym not ∙ sym same))
 
-  no_empty_point : (nested mark s o : Bool) (x y : ClassNo) {X : Type 0}
-      → elim nested as (λ _. Opening) [ false ↦ Opening.Refuse x | true ↦ elim mark as (λ _. Opening) [ true ↦ Opening.Refuse y | false ↦ Opening.Point ] ] ≡ Opening.Empty s o → X
-  no_empty_point false mark s o x y is = cc
-  no_empty_point true true s o x y is = cc
-  no_empty_point true false s o x y is = cc
-
   empty_in : (a : TxAttr) (context : Context) (tx : Option Live) (s o : Bool) → opening_in settings a context tx ≡ Opening.Empty s o → o ≡ true → s ≡ false → context.syncs ≡ None
   empty_in a context (Some live) s o is owns not = within a.propagation is
     where
@@ -138,7 +131,7 @@ module _ (settings : Settings) where
       within Propagation.RequiresNew is = cc
       within Propagation.NotSupported is = apart _ s o is not
       within Propagation.Never is = cc
-      within Propagation.Nested is = no_empty_point settings.nested live.mark s o _ _ is
+      within Propagation.Nested is = nested_is settings.nested live.mark _ _ _ (λ same. cc) (λ same. cc) (λ same. cc) is
   empty_in a context None s o is owns not = without a.propagation is
     where
       without : (p : Propagation) → opening_without settings context p ≡ Opening.Empty s o → context.syncs ≡ None
@@ -187,9 +180,13 @@ pub suspended_either : (b : Bool) (st : State) → (b ≡ false → st.context �
 suspended_either true st is = refl
 suspended_either false st is = suspended_bare st (is refl)
 
--- the opening of this attribute is the one that was found for an equal one
-pub found_for : (settings : Settings) (context : Context) (a b : TxAttr) (r o : Opening) → a ≡ b → r ≡ opening settings a context → r ≡ o → opening settings b context ≡ o
-found_for settings context a b r o same found is = ap (λ a. opening settings a context) (sym same) ∙ sym found ∙ is
+-- where the scope of a call is opened so
+pub opened_so : (S : Scenario) (n : ℕ) (m : Machine) (method : MethodNo) (catch : Option ClassNo) (o : Opening) (pool : List PoolNote) (store : List StoreNote)
+    → opening S.settings (attribute_of S method) (context_of m.context) ≡ o
+    → onward_caught S n m catch (opened S method (state_before m pool store))
+    ≡ onward_caught S n m catch (opens S (inside S method) method (attribute_of S method) (statements S method 0) o (state_before m pool store))
+opened_so S n m method catch o pool store is =
+    ap (λ z. onward_caught S n m catch (opens S (inside S method) method (attribute_of S method) (statements S method 0) z (state_before m pool store))) is
 
 -- where the script has no active synchronisation, the client carries none
 pub none_of : (syncs : Option Registrations) → option_map (λ r. r.list) syncs ≡ None → syncs ≡ None

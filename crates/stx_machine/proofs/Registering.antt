@@ -1,6 +1,7 @@
 -- What the calls under way rely on, where one registration more is made.
-use Rattle.std.proofs.Common.{◌≡◌, ◌++◌, ◌∷◌, [], Bool, true, false, List, Option, Some, None, ap, arith}
+use Rattle.std.proofs.Common.{◌≡◌, ◌++◌, ◌∷◌, [], Bool, true, false, List, Option, Some, None, sym, ap, subst, arith}
 use Rattle.std.specs.Prelude.{◌&&◌}
+use Rattle.std.specs.Option.{option_map}
 use Rattle.stx_scenario.specs.declared.numbers.MethodNo.{MethodNo}
 use Rattle.stx_scenario.specs.declared.scenario.Scenario.{Scenario}
 use Rattle.stx_base.specs.declared.manager.Kind.{Kind}
@@ -10,12 +11,13 @@ use Rattle.stx_model.specs.Below.{LabelBelow}
 use Rattle.stx_model.specs.Contexts.{Registration}
 use Rattle.stx_model.proofs.Callable.{all_append, label_raise}
 use Rattle.stx_context.specs.Carrying.{Carried}
+use Rattle.stx_sync.specs.Registries.{Registrations}
 use Rattle.stx_frames.specs.declared.frame.Frame.{Frame}
 use Rattle.stx_manager.specs.Scopes.{OpenScope}
 use Rattle.stx_machine.specs.declared.interception.Interception.{Interception}
 use Rattle.stx_machine.specs.declared.interception.Phase.{Phase}
 use Rattle.stx_machine.specs.Machine.{Call, caller_rank}
-use Rattle.stx_machine.specs.Sound.{Bond, CallsRun, IsIntercepted, RoundsIn, RunsIn, Shelters, Standing, below_phase, due_told, ends_after, has_own_of, is_point, nothing, one_less, owns_in, releases, standing_under, without_own}
+use Rattle.stx_machine.specs.Sound.{Bond, bond_of, standing_of, CallsRun, IsIntercepted, RoundsIn, RunsIn, Shelters, Standing, below_phase, due_told, ends_after, has_own_of, is_point, nothing, one_less, owns_in, releases, standing_under, without_own}
 
 module _ (S : Scenario) (r : Registration) where
   -- with these registrations
@@ -103,3 +105,10 @@ registers_run S r (Frame.Round round todo at_ place x ∷ Frame.Round other rest
 registers_run S r (Frame.Round round todo at_ place x ∷ Frame.Now listener statement ∷ fs) below bond list calls = absurd calls
 registers_run S r (Frame.Round round todo at_ place x ∷ []) below bond list calls = absurd calls
 registers_run S r (Frame.Now listener place ∷ fs) below bond list calls = (calls.0, calls.1, calls.2, registers_run S r fs below bond list calls.3)
+
+-- the same of what a client carries, whose registry has one registration more
+pub registry_runs : (S : Scenario) (r : Registration) (fs : List Call) (carried : Carried) (had new : Registrations) → Some had ≡ carried.syncs → new.list ≡ had.list ++ r ∷ []
+    → LabelBelow S (caller_rank S fs) r.label → CallsRun S (standing_of carried) fs → CallsRun S (standing_of (record carried { syncs = Some new })) fs
+registry_runs S r fs carried had new is more below calls =
+    let before = subst (λ o. CallsRun S (record { bond = bond_of carried.tx; syncs = option_map (λ (k : Registrations). k.list) o }) fs) (sym is) calls in
+    subst (λ list. CallsRun S (record { bond = bond_of carried.tx; syncs = Some list }) fs) (sym more) (registers_run S r fs below (bond_of carried.tx) had.list before)

@@ -22,24 +22,34 @@ row_with s a d same None st = λ i. ask Want.Take (on_take (λ o after. connects
     connects_as None after = refl
 
 module _ (S : Scenario) (calls : Calls) (st : State) where
+  -- of a method's statement as of a callback's
   abbrev Is : Stmt → Access × Then → Type 0
-  Is s p = statement S calls s st ≡ row_in st.context.tx p.0 p.1 st
+  Is s p = (statement S calls s st ≡ row_in st.context.tx p.0 p.1 st) × (callback_statement S calls s st ≡ row_in st.context.tx p.0 p.1 st)
 
   moved : (s : Stmt) (p q : Access × Then) → ◌≡◌ {A = Option (Access × Then)} (Some p) (Some q) → Is s p → Is s q
   moved s p q is here =
       let same : p ≡ q = cc in subst (Is s) same here
 
+  twice : {A : Type 0} → A → A × A
+  twice same = (same, same)
+
+  both_are : (s : Stmt) (a : Access) (d : Then) → access_in s ≡ Some (a, d) → Is s (a, d)
+  unfolding statement callback_statement
+  both_are (Stmt.Read k) a d is = moved (Stmt.Read k) (Access.Read k, Then.Nothing) (a, d) is (twice (row_with (Stmt.Read k) (Access.Read k) Then.Nothing (λ at after. refl) st.context.tx st))
+  both_are (Stmt.Write k v) a d is = moved (Stmt.Write k v) (Access.Write k v, Then.Nothing) (a, d) is (twice (row_with (Stmt.Write k v) (Access.Write k v) Then.Nothing (λ at after. refl) st.context.tx st))
+  both_are (Stmt.Erase k) a d is = moved (Stmt.Erase k) (Access.Erase k, Then.Nothing) (a, d) is (twice (row_with (Stmt.Erase k) (Access.Erase k) Then.Nothing (λ at after. refl) st.context.tx st))
+  both_are (Stmt.Need k n) a d is = moved (Stmt.Need k n) (Access.Read k, Then.Need n) (a, d) is (twice (row_with (Stmt.Need k n) (Access.Read k) (Then.Need n) (λ at after. refl) st.context.tx st))
+  both_are (Stmt.Add k n) a d is = moved (Stmt.Add k n) (Access.Read k, Then.Add k n) (a, d) is (twice (row_with (Stmt.Add k n) (Access.Read k) (Then.Add k n) (λ at after. refl) st.context.tx st))
+  both_are (Stmt.Call m catch) a d is = cc
+  both_are (Stmt.This m catch) a d is = cc
+  both_are (Stmt.Throw x) a d is = cc
+  both_are Stmt.Mark a d is = cc
+  both_are (Stmt.Publish e) a d is = cc
+  both_are (Stmt.Register r) a d is = cc
+
   -- a statement on a row is its first access, and what is done with the answer
   pub row_is : (s : Stmt) (a : Access) (d : Then) → access_in s ≡ Some (a, d) → statement S calls s st ≡ row_in st.context.tx a d st
-  unfolding statement callback_statement
-  row_is (Stmt.Read k) a d is = moved (Stmt.Read k) (Access.Read k, Then.Nothing) (a, d) is (row_with (Stmt.Read k) (Access.Read k) Then.Nothing (λ at after. refl) st.context.tx st)
-  row_is (Stmt.Write k v) a d is = moved (Stmt.Write k v) (Access.Write k v, Then.Nothing) (a, d) is (row_with (Stmt.Write k v) (Access.Write k v) Then.Nothing (λ at after. refl) st.context.tx st)
-  row_is (Stmt.Erase k) a d is = moved (Stmt.Erase k) (Access.Erase k, Then.Nothing) (a, d) is (row_with (Stmt.Erase k) (Access.Erase k) Then.Nothing (λ at after. refl) st.context.tx st)
-  row_is (Stmt.Need k n) a d is = moved (Stmt.Need k n) (Access.Read k, Then.Need n) (a, d) is (row_with (Stmt.Need k n) (Access.Read k) (Then.Need n) (λ at after. refl) st.context.tx st)
-  row_is (Stmt.Add k n) a d is = moved (Stmt.Add k n) (Access.Read k, Then.Add k n) (a, d) is (row_with (Stmt.Add k n) (Access.Read k) (Then.Add k n) (λ at after. refl) st.context.tx st)
-  row_is (Stmt.Call m catch) a d is = cc
-  row_is (Stmt.This m catch) a d is = cc
-  row_is (Stmt.Throw x) a d is = cc
-  row_is Stmt.Mark a d is = cc
-  row_is (Stmt.Publish e) a d is = cc
-  row_is (Stmt.Register r) a d is = cc
+  row_is s a d is = (both_are s a d is).0
+
+  pub row_called : (s : Stmt) (a : Access) (d : Then) → access_in s ≡ Some (a, d) → callback_statement S calls s st ≡ row_in st.context.tx a d st
+  row_called s a d is = (both_are s a d is).1

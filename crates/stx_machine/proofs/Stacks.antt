@@ -6,6 +6,8 @@ use Rattle.std.specs.Prelude.{ℕ, reverse, slice_get, unwrap_or, IsSome}
 use Rattle.std.specs.Option.{option_to_list, option_map}
 use Rattle.std.proofs.lemmas.List.{reverse-append}
 use Rattle.stx_scenario.specs.Rooms.{Room}
+use Rattle.stx_scenario.specs.declared.numbers.ClassNo.{ClassNo}
+use Rattle.stx_scenario.specs.declared.numbers.MethodNo.{MethodNo}
 use Rattle.stx_base.specs.declared.history.PoolNote.{PoolNote}
 use Rattle.stx_base.specs.declared.history.StoreNote.{StoreNote}
 use Rattle.stx_model.specs.Contexts.{Live, bare}
@@ -13,13 +15,14 @@ use Rattle.stx_model.specs.Meanings.{State, Result, Meaning}
 use Rattle.stx_model.specs.Scopes.{live_in, resumed}
 use Rattle.stx_model.specs.Scopes.{resume}
 use Rattle.stx_context.specs.Carrying.{Carried, context_of}
+use Rattle.stx_frames.specs.declared.frame.Frame.{Frame}
 use Rattle.stx_machine.specs.declared.interception.Interception.{Interception}
 use Rattle.stx_machine.specs.declared.interception.Phase.{Phase}
 use Rattle.stx_machine.specs.Sound.{Standing, OpensIn, PointsIn, RunsIn}
 use Rattle.stx_machine.specs.declared.machine.Machine.{Machine}
 use Rattle.stx_machine.specs.declared.stage.Stage.{Stage}
 use Rattle.stx_scenario.specs.declared.scenario.Scenario.{Scenario}
-use Rattle.stx_machine.specs.Machine.{Call, IsPushed, HasTransaction, stack, unwound, frame_after, piece, state_with, context_at, later_calls, run}
+use Rattle.stx_machine.specs.Machine.{Call, IsPushed, HasTransaction, Innermost, stack, unwound, frame_after, piece, state_with, context_at, later_calls, run}
 
 -- a call on top
 pub pushed : (old new : Room Call) (f : Call) → new.items ≡ old.items ++ f ∷ [] → stack new ≡ f ∷ stack old
@@ -63,6 +66,16 @@ none_left (f ∷ fs) is = by_place (slice_get_cases (f ∷ fs) (length fs)).1
     by_place (inl (x, less, there, same)) =
         let last : slice_get (f ∷ fs) (length (f ∷ fs) - 1) ≡ Some x = ap (slice_get (f ∷ fs)) (omega arith) ∙ there in absurd cc
     by_place (inr (past, none)) = absurd (omega (arith, past))
+
+-- what holds with each intercepted call on top
+pub each_innermost : (P : MethodNo → ℕ → Option ClassNo → Interception → List Call → Type 0) (Q : List Call → Type 0)
+    → ((m : MethodNo) (place : ℕ) (catch : Option ClassNo) (i : Interception) (fs : List Call) → P m place catch i fs → Q (Frame.Body m place catch (Some i) ∷ fs))
+    → (fs : List Call) → Innermost P fs → Q fs
+each_innermost P Q holds (Frame.Body m place catch (Some i) ∷ fs) is = holds m place catch i fs is
+each_innermost P Q holds (Frame.Body m place catch None ∷ fs) is = absurd is
+each_innermost P Q holds (Frame.Round round todo at place x ∷ fs) is = absurd is
+each_innermost P Q holds (Frame.Now listener place ∷ fs) is = absurd is
+each_innermost P Q holds [] is = absurd is
 
 -- ---- phases
 

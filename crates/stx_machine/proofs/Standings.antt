@@ -1,5 +1,5 @@
 -- What the calls under way rely on: where a call is put on top, where an action is done, and where a savepoint is made.
-use Rattle.std.proofs.Common.{IfSome, ◌≡◌, ◌∙◌, ◌∷◌, [], ℕ, zero, suc, ◌+◌, ◌<◌, ◌≤◌, Bool, true, false, List, Option, Some, None, refl, sym, ap, subst, arith}
+use Rattle.std.proofs.Common.{◌≡◌, ◌∙◌, ◌∷◌, [], ℕ, zero, suc, ◌+◌, ◌<◌, ◌≤◌, Bool, true, false, List, Option, Some, None, refl, sym, ap, subst, arith}
 use Rattle.std.specs.Prelude.{◌&&◌, ◌||◌, not, IsSome}
 use Rattle.std.specs.Option.{is_some, option_map}
 use Rattle.std.proofs.lemmas.Bool.{false≢true, and_parts}
@@ -23,7 +23,8 @@ use Rattle.stx_machine.specs.declared.tokens.Tokens.{Tokens}
 use Rattle.stx_scenario.specs.declared.numbers.ClassNo.{ClassNo}
 use Rattle.stx_machine.specs.Machine.{Call, round_in, left_in, left_of, IsPushed, stack, caller_rank}
 use Rattle.stx_machine.specs.Sound.{Bond, IsIntercepted, due_after, Unbound, Runs, Ended, CallPoints, CallsRun, IsBody, IsEarly, IsSound, Standing, StageFits, below_rest, below_scope, bond_of, RoundsIn, RunsIn, Shelters, below_phase, below_round, due_in, due_told, ends_after, ends_syncs, has_ended, has_own_of, has_point, is_due, is_last, is_point, is_resumption, is_unbound, nothing, one_less, one_more, points_of, releases, runs, standing_of, standing_under, without_own}
-use Rattle.stx_machine.proofs.Stacks.{pushed, runs_only}
+use Rattle.stx_machine.proofs.Endings.{each_round}
+use Rattle.stx_machine.proofs.Stacks.{each_innermost, pushed, runs_only}
 
 -- ---- the last action
 
@@ -118,25 +119,21 @@ shelters_all S m false ends syncs is sheltered = tt
 
 -- a round that is the next of a completion's actions
 pub round_due : (S : Scenario) (m : MethodNo) (scope : OpenScope) (standing : Standing) (rest : List Action) (a : Action)
-    → due_in scope standing (a ∷ rest) ≡ true → IsIntercepted S m (scope.owns && ends_syncs (a ∷ rest)) standing.syncs
-    → IfSome (round_in a) (λ r. (due_after r.0 scope standing rest ≡ true) × IsIntercepted S m scope.owns standing.syncs
-    × (releases (a ∷ rest) ≡ releases rest) × (ends_syncs (a ∷ rest) ≡ ends_after r.0 rest))
-round_due S m scope standing rest Action.RoundBeforeCompletion due held =
-    let (last, later) = and_parts (ends_syncs rest || not scope.owns) _ due in
-    (later, record { attribute = held.attribute; shelters = shelters_all S m scope.owns (ends_syncs rest) standing.syncs last held.shelters }, refl, refl)
-round_due S m scope standing rest Action.RoundAfterCommit due held =
-    let (last, later) = and_parts (ends_syncs rest || not scope.owns) _ due in
-    (later, record { attribute = held.attribute; shelters = shelters_all S m scope.owns (ends_syncs rest) standing.syncs last held.shelters }, refl, refl)
-round_due S m scope standing rest (Action.RoundAfterCompletion committed) due held =
-    (due, record { attribute = held.attribute; shelters = shelters_all S m scope.owns true standing.syncs refl held.shelters }, refl, refl)
-round_due S m scope standing rest Action.CommitStore due held = tt
-round_due S m scope standing rest Action.RollbackStore due held = tt
-round_due S m scope standing rest Action.BackToPoint due held = tt
-round_due S m scope standing rest Action.ReleasePoint due held = tt
-round_due S m scope standing rest Action.MarkGlobally due held = tt
-round_due S m scope standing rest Action.ThrowUnexpected due held = tt
-round_due S m scope standing rest Action.GiveBack due held = tt
-round_due S m scope standing rest Action.Resumption due held = tt
+    → (round : Round) (committed : Bool) → round_in a ≡ Some (round, committed) → due_in scope standing (a ∷ rest) ≡ true → IsIntercepted S m (scope.owns && ends_syncs (a ∷ rest)) standing.syncs
+    → (due_after round scope standing rest ≡ true) × IsIntercepted S m scope.owns standing.syncs × (releases (a ∷ rest) ≡ releases rest) × (ends_syncs (a ∷ rest) ≡ ends_after round rest)
+round_due S m scope standing rest =
+    each_round
+    (λ a round committed. due_in scope standing (a ∷ rest) ≡ true → IsIntercepted S m (scope.owns && ends_syncs (a ∷ rest)) standing.syncs
+    → (due_after round scope standing rest ≡ true) × IsIntercepted S m scope.owns standing.syncs × (releases (a ∷ rest) ≡ releases rest) × (ends_syncs (a ∷ rest) ≡ ends_after round rest))
+    early early (λ committed due held. (due, sheltered true refl held, refl, refl))
+  where
+    sheltered : (ends : Bool) → ends || not scope.owns ≡ true → IsIntercepted S m (scope.owns && ends) standing.syncs → IsIntercepted S m scope.owns standing.syncs
+    sheltered ends last held = record { attribute = held.attribute; shelters = shelters_all S m scope.owns ends standing.syncs last held.shelters }
+
+    early : {still : Bool} → (ends_syncs rest || not scope.owns) && still ≡ true → IsIntercepted S m (scope.owns && ends_syncs rest) standing.syncs
+        → (still ≡ true) × IsIntercepted S m scope.owns standing.syncs × (releases rest ≡ releases rest) × (ends_syncs rest ≡ ends_syncs rest)
+    early due held =
+        let (last, later) = and_parts (ends_syncs rest || not scope.owns) _ due in (later, sheltered (ends_syncs rest) last held, refl, refl)
 
 pub shelters_part : (S : Scenario) (m : MethodNo) (owns ends : Bool) (syncs : Option (List Registration)) → Shelters S m owns syncs → Shelters S m (owns && ends) syncs
 shelters_part S m true true syncs sheltered = sheltered
@@ -262,12 +259,8 @@ points_low S standing (Frame.Now listener place ∷ fs) calls = points_low S sta
 
 -- where the innermost call waits for its savepoint
 pub points_before : (S : Scenario) (standing : Standing) (fs : List Call) → CallPoints S standing fs → points_of standing.bond ≤ 65
-points_before S standing (Frame.Body m place catch (Some i) ∷ fs) points =
-    let low = points_low S standing fs points.5 in omega (arith, low)
-points_before S standing (Frame.Body m place catch None ∷ fs) points = absurd points
-points_before S standing (Frame.Round round todo at place x ∷ fs) points = absurd points
-points_before S standing (Frame.Now listener place ∷ fs) points = absurd points
-points_before S standing [] points = absurd points
+points_before S standing fs points =
+    each_innermost _ (λ _. points_of standing.bond ≤ 65) (λ m place catch i below is. omega (arith, points_low S standing below is.5)) fs points
 
 inactive_of : (syncs : Option Registrations) → option_map (λ r. r.list) syncs ≡ None → not (is_some syncs) ≡ true
 inactive_of None is = refl

@@ -1,6 +1,6 @@
 -- What is left of a client's script at each stage of its machine.
-use Rattle.std.specs.Prelude.{◌≡◌, ℕ, zero, suc, ◌+◌, ◌*◌, ◌<◌, ◌==◌, length, map, slice_get, ⊤, ℤ, ◌+ℤ◌, Bool, true, false, List, [], ◌∷◌, ◌++◌, ◌≤◌, drop, reverse, Option, Some, None, IsSome, IfSome, unwrap_or}
-use Rattle.std.specs.Option.{is_some, option_map, option_map_or}
+use Rattle.std.specs.Prelude.{◌≡◌, ℕ, zero, suc, ◌+◌, ◌*◌, ◌<◌, ◌==◌, length, map, slice_get, ⊤, ℤ, ◌+ℤ◌, Bool, true, false, List, [], ◌∷◌, ◌++◌, ◌≤◌, drop, reverse, Option, Some, None, IfSome, unwrap_or}
+use Rattle.std.specs.Option.{option_map, option_map_or}
 use Rattle.stx_scenario.specs.declared.numbers.ClassNo.{ClassNo}
 use Rattle.stx_scenario.specs.declared.numbers.EventNo.{EventNo}
 use Rattle.stx_scenario.specs.declared.numbers.ListenerNo.{ListenerNo}
@@ -22,11 +22,9 @@ use Rattle.stx_base.specs.declared.line.Line.{Line}
 use Rattle.stx_base.specs.declared.line.Label.{Label}
 use Rattle.stx_base.specs.declared.manager.Round.{Round}
 use Rattle.stx_base.specs.declared.manager.Action.{Action}
-use Rattle.stx_base.specs.declared.history.Note.{Note}
 use Rattle.stx_base.specs.declared.manager.Ending.{Ending}
 use Rattle.stx_base.specs.declared.manager.Kind.{Kind}
 use Rattle.stx_base.specs.declared.manager.Opening.{Opening}
-use Rattle.stx_base.specs.Notes.{pool_line, store_line}
 use Rattle.stx_base.specs.Attributes.{attribute}
 use Rattle.stx_base.specs.Weight.{body_of, rank}
 use Rattle.stx_model.specs.Contexts.{Context, Live, Registration, bare, ordered, ordered_labels, registered, with_global_mark, without_syncs}
@@ -35,8 +33,8 @@ use Rattle.stx_model.specs.Below.{listener_body}
 use Rattle.stx_model.specs.Listeners.{Deed, Register, RunNow, Skip, deeds, runs_in}
 use Rattle.stx_model.specs.Meanings.{State, Result, Over, Stops, Breaks, Meaning, and_then, finally, say, with_context, ask, on_take}
 use Rattle.stx_model.specs.Opening.{opening}
-use Rattle.stx_model.specs.Rounds.{Calls, Proxied, callback, callback_line, stopping_round, swallowing_round, swallows, sync_body}
-use Rattle.stx_model.specs.Scopes.{Scope, leaves, acts, ends, begins, opens, fresh_context, in_scope, empty, later_or, live_in, older_if, resumed, ruled, say_each, say_unbind, started_syncs, suspend, suspended, within}
+use Rattle.stx_model.specs.Rounds.{Calls, Proxied, callback, stopping_round, swallowing_round, swallows, sync_body}
+use Rattle.stx_model.specs.Scopes.{Scope, leaves, acts, ends, begins, opens, in_scope, empty, later_or, live_in, older_if, ruled, say_each, say_unbind, started_syncs, suspend, suspended, within}
 use Rattle.stx_model.specs.Scopes.{completes as completes_so, resume}
 use Rattle.stx_model.specs.Script.{body, unscoped, invoked, calls_below, deals, tops, calls_of}
 use Rattle.stx_model.specs.Statements.{RowAccess, register_listener, throws, concludes, caught, is_value, unless_busy, access_row, nothing_more, needed, added, in_transaction, on_connection}
@@ -151,6 +149,11 @@ Call = Frame Interception
 
 abbrev pub stack : Room Call → List Call
 stack frames = reverse frames.items
+
+-- the innermost call is an intercepted one, of which this holds
+abbrev pub Innermost : (MethodNo → ℕ → Option ClassNo → Interception → List Call → Type 0) → List Call → Type 0
+Innermost P (Frame.Body m place catch (Some i) ∷ fs) = P m place catch i fs
+Innermost P _ = ⊥
 
 -- the rank of the innermost method; a client is above all
 abbrev pub caller_rank : Scenario → List Call → ℕ
@@ -411,9 +414,17 @@ later_calls S n top r = finally r (λ _. tops S (top + 1) (drop (top + 1) (calls
 abbrev pub tops_from : Scenario → ℕ → ℕ → Meaning
 tops_from S n top st = tops S top (drop top (calls_of S n)) st
 
+-- the client after a piece of the innermost frame of this machine that came to r
+abbrev pub onward : Scenario → ℕ → Machine → Result → Result
+onward S n m r = later_calls S n m.top (unwound S (stack m.frames) r)
+
+-- and after a call on top of these frames that came to r, of which its statement catches this
+abbrev pub onward_caught : Scenario → ℕ → Machine → Option ClassNo → Result → Result
+onward_caught S n m catch r = onward S n m (finally r (caught S catch))
+
 -- what is left of the script of client n
 abbrev pub run : Scenario → ℕ → Machine → List PoolNote → List StoreNote → Result
-run S n m pool store = later_calls S n m.top (unwound S (stack m.frames) (piece S (stack m.frames) m.stage (state_at m pool store)))
+run S n m pool store = onward S n m (piece S (stack m.frames) m.stage (state_at m pool store))
 
 -- ---- steps
 
@@ -422,7 +433,7 @@ run S n m pool store = later_calls S n m.top (unwound S (stack m.frames) (piece 
 abbrev pub ComesTo : Scenario → ℕ → Machine → Meaning → Machine → Type 0
 ComesTo S n before meaning after =
     (pool : List PoolNote) (store : List StoreNote)
-    → later_calls S n before.top (unwound S (stack before.frames) (meaning (state_before before pool store))) ≡ run S n after pool store
+    → onward S n before (meaning (state_before before pool store)) ≡ run S n after pool store
 
 -- whichever the client is
 abbrev pub Comes : Scenario → Machine → Meaning → Machine → Type 0
@@ -641,8 +652,7 @@ IsResuming _ = ⊥
 
 -- the innermost call is an intercepted one
 abbrev pub IsIntercepting : List Call → Type 0
-IsIntercepting (Frame.Body m place catch (Some i) ∷ fs) = ⊤
-IsIntercepting _ = ⊥
+IsIntercepting = Innermost (λ m place catch i fs. ⊤)
 
 -- what these actions of a call's completion are to its caller
 abbrev pub acts_of : Scenario → Intercepted → List Action → Option ClassNo → Meaning
@@ -675,8 +685,7 @@ completes_of S call e x st = finally (completes_so S (inside S call.method) (sco
 
 -- the innermost call is one for which what was suspended is carried again: it completes, or was refused
 abbrev pub ResumesOn : List Call → Type 0
-ResumesOn (Frame.Body m place catch (Some i) ∷ fs) = IsResuming i.phase
-ResumesOn _ = ⊥
+ResumesOn = Innermost (λ m place catch i fs. IsResuming i.phase)
 
 -- the rules' line, where the body threw
 pub record Rules (S : Scenario) (rules : List Rule) (x : Option ClassNo) (before after : Machine) : Type 0 where

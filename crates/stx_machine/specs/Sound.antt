@@ -1,7 +1,6 @@
 -- What always holds of a machine: what each call under way has of the context, and what the client holds.
-use Rattle.std.specs.Prelude.{◌≡◌, ℕ, zero, suc, ◌-◌, ◌^◌, ◌<◌, ◌≤◌, Bool, true, false, ◌&&◌, ◌||◌, not, List, [], ◌∷◌, length, map, Option, Some, None, IsTrue, IsSome, ⊤, slice_get}
+use Rattle.std.specs.Prelude.{◌≡◌, ℕ, zero, suc, ◌-◌, ◌^◌, ◌<◌, ◌≤◌, Bool, true, false, ◌&&◌, ◌||◌, not, List, [], ◌∷◌, length, map, Option, Some, None, IsTrue, IsSome, ⊤}
 use Rattle.std.specs.Option.{is_some}
-use Rattle.stx_scenario.specs.declared.scenario.Stmt.{Stmt}
 use Rattle.stx_base.specs.Weight.{rank}
 use Rattle.stx_scenario.specs.declared.numbers.ClassNo.{ClassNo}
 use Rattle.stx_scenario.specs.declared.numbers.MethodNo.{MethodNo}
@@ -16,9 +15,9 @@ use Rattle.stx_base.specs.Attributes.{attribute}
 use Rattle.stx_base.specs.Limits.{most_calls}
 use Rattle.stx_base.specs.declared.manager.Round.{Round}
 use Rattle.std.specs.List.{AllByRecursion}
-use Rattle.stx_model.specs.Below.{DeedBelow, ListenerBelow, RegisteredBelow, SyncBelow}
+use Rattle.stx_model.specs.Below.{DeedBelow, ListenerBelow, RegisteredBelow}
 use Rattle.stx_model.specs.Contexts.{Registration, registered}
-use Rattle.stx_model.specs.Listeners.{Deed, deeds}
+use Rattle.stx_model.specs.Listeners.{Deed}
 use Rattle.stx_model.specs.Ending.{completion_refused}
 use Rattle.stx_conn.specs.Bindings.{Binding}
 use Rattle.stx_context.specs.Carrying.{Carried, bare, context_of}
@@ -34,7 +33,7 @@ use Rattle.stx_machine.specs.declared.machine.Machine.{Machine}
 use Rattle.stx_machine.specs.declared.stage.Place.{Place}
 use Rattle.stx_machine.specs.declared.stage.Stage.{Stage}
 use Rattle.stx_machine.specs.declared.tokens.Tokens.{Tokens}
-use Rattle.stx_machine.specs.Machine.{Call, IsClass, IsIntercepting, caller_rank, later_deeds, publication_of, rest_of, stack}
+use Rattle.stx_machine.specs.Machine.{Call, IsClass, Innermost, caller_rank, later_deeds, publication_of, rest_of, stack}
 
 -- ---- tokens
 
@@ -343,40 +342,38 @@ CallsRun S standing _ = ⊥
 
 -- the innermost call waits for its transaction
 abbrev pub CallOpens : Scenario → List Call → Type 0
-CallOpens S (Frame.Body m place catch (Some i) ∷ fs) =
-    IsCall S (caller_rank S fs) m catch × (place ≡ 0) × IsSome (attribute S m) × OpensIn i i.phase × CallsRun S (standing_under i.scope.suspended nothing) fs
-CallOpens S _ = ⊥
+CallOpens S =
+    Innermost (λ m place catch i fs.
+    IsCall S (caller_rank S fs) m catch × (place ≡ 0) × IsSome (attribute S m) × OpensIn i i.phase × CallsRun S (standing_under i.scope.suspended nothing) fs)
 
 -- or for its savepoint
 abbrev pub CallPoints : Scenario → Standing → List Call → Type 0
-CallPoints S standing (Frame.Body m place catch (Some i) ∷ fs) =
-    IsCall S (caller_rank S fs) m catch × (place ≡ 0) × IsSome (attribute S m) × PointsIn i i.phase × IsTrue (not (is_unbound standing.bond)) × CallsRun S standing fs
-CallPoints S standing _ = ⊥
+CallPoints S standing =
+    Innermost (λ m place catch i fs.
+    IsCall S (caller_rank S fs) m catch × (place ≡ 0) × IsSome (attribute S m) × PointsIn i i.phase × IsTrue (not (is_unbound standing.bond)) × CallsRun S standing fs)
 
 -- the innermost call completes
 abbrev pub CallCompletes : Scenario → Standing → List Call → Type 0
-CallCompletes S standing (Frame.Body m place catch (Some i) ∷ fs) =
+CallCompletes S standing =
+    Innermost (λ m place catch i fs.
     IsCall S (caller_rank S fs) m catch × IsIntercepted S m (owns_in i.scope i.phase) standing.syncs × CompletesIn S standing i i.phase
-    × CallsRun S (below_rest i.scope (rest_of i.phase) standing) fs
-CallCompletes S standing _ = ⊥
+    × CallsRun S (below_rest i.scope (rest_of i.phase) standing) fs)
 
 -- a round of the innermost call begins
 abbrev pub CallRounds : Scenario → Standing → List Call → Type 0
-CallRounds S standing (Frame.Body m place catch (Some i) ∷ fs) =
+CallRounds S standing =
+    Innermost (λ m place catch i fs.
     IsCall S (caller_rank S fs) m catch × IsIntercepted S m (owns_in i.scope i.phase) standing.syncs × IsTrue i.scope.owns × BeginsRound S standing i i.phase
-    × CallsRun S (below_phase i.scope i.phase standing) fs
-CallRounds S standing _ = ⊥
+    × CallsRun S (below_phase i.scope i.phase standing) fs)
 
 -- what was suspended for the innermost call is carried again
 abbrev pub CallResumes : Scenario → Standing → List Call → Type 0
-CallResumes S standing (Frame.Body m place catch (Some i) ∷ fs) =
-    IsCall S (caller_rank S fs) m catch × IsSome (attribute S m) × ResumesIn S i i.phase × CallsRun S standing fs
-CallResumes S standing _ = ⊥
+CallResumes S standing =
+    Innermost (λ m place catch i fs. IsCall S (caller_rank S fs) m catch × IsSome (attribute S m) × ResumesIn S i i.phase × CallsRun S standing fs)
 
 -- after the connection is given back, what was suspended is resumed
 abbrev pub GivesLast : List Call → Type 0
-GivesLast (Frame.Body m place catch (Some i) ∷ fs) = IsTrue (is_resumption (rest_of i.phase)) × IsSome i.scope.suspended
-GivesLast _ = ⊥
+GivesLast = Innermost (λ m place catch i fs. IsTrue (is_resumption (rest_of i.phase)) × IsSome i.scope.suspended)
 
 -- ---- the whole
 

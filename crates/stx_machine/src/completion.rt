@@ -169,34 +169,22 @@ impl Machine {
         ensures held { held self.new.stage ≡ no_tokens }
         ensures longer { IsLonger self.old self.new }
     {
-        let Intercepted {
-            method,
-            place,
-            catch,
-            mut interception,
-        } = call;
-        let rolls_back = self.rule(setup, method, thrown);
-        let ending = self.ending(&mut interception, rolls_back);
+        let mut call = call;
+        let rolls_back = self.rule(setup, call.method, thrown);
+        let ending = self.ending(&mut call.interception, rolls_back);
         self.lines.push(Line::End(ending));
-        let kind = interception.scope.kind();
-        let call = Intercepted {
-            method,
-            place,
-            catch,
-            interception,
-        };
-        self.go_on_to(call, kind, ending, thrown);
+        self.go_on_to(call, ending, thrown);
     }
 
     // Goes on to the completion of a scope that ends so; before it a scope that is to commit has its before_commit round.
-    fn go_on_to(&mut self, call: Intercepted, kind: Kind, ending: Ending, thrown: Option<ClassNo>)
-        requires kind { call.interception.scope.kind ≡ kind }
+    fn go_on_to(&mut self, call: Intercepted, ending: Ending, thrown: Option<ClassNo>)
         requires frames { 1 ≤ self.old.frames.spare }
         ensures goes { (S : ScenarioData) → Comes S self.old (completes_of S call ending thrown) self.new }
         ensures sound { (S : ScenarioData) → IsEndingSo S (rank_at S self.old) call (standing_of self.old.context) ending thrown → IsApart S self.old (below_scope call.interception.scope (standing_of self.old.context)) → IsSound S self.new no_tokens }
         ensures held { held self.new.stage ≡ no_tokens }
         ensures lines { self.new.lines ≡ self.old.lines }
     {
+        let kind = call.interception.scope.kind();
         let rest = completion(kind, ending);
         if has_before_commit(kind, ending) {
             self.begin_round(
@@ -262,18 +250,12 @@ impl Machine {
         ensures sound { IsSound setup.now.scenario self.new (held self.new.stage) }
         ensures longer { IsLonger self.old self.new }
     {
-        let Intercepted {
-            method,
-            catch,
-            interception,
-            place: _,
-        } = call;
-        self.local = interception.outer;
-        drop(interception);
-        self.leave(setup, method, catch, thrown);
+        self.local = call.interception.outer;
+        self.leave(setup, call.method, call.catch, thrown);
     }
 
     // One action; the rest is due after it.
+    #[tactic(auto, using(crate::proofs::Completing::gives_back), unfolding(stx_model::specs::Scopes::acts))]
     fn act(
         &mut self,
         setup: &Setup,
@@ -291,8 +273,8 @@ impl Machine {
         ensures sound { IsSound setup.now.scenario self.new (held self.new.stage) }
         ensures moves { Moves (4 * (length rest.now + 1)) self.old self.new }
     {
-        match round_of(action) {
-            Some((round, committed)) => self.begin_round(
+        if let Some((round, committed)) = round_of(action) {
+            return self.begin_round(
                 call,
                 Course {
                     round,
@@ -300,30 +282,8 @@ impl Machine {
                     rest,
                     thrown,
                 },
-            ),
-            None => self.carry_out(setup, call, action, rest, thrown),
+            );
         }
-    }
-
-    // An action that is no round.
-    fn carry_out(
-        &mut self,
-        setup: &Setup,
-        call: Intercepted,
-        action: Action,
-        rest: &'static [Action],
-        thrown: Option<ClassNo>,
-    )
-        requires no_round { round_in action ≡ None }
-        requires completing { IsCompleting setup.now.scenario (rank_at setup.now.scenario self.old) call (standing_of self.old.context) (action ∷ rest.now) thrown }
-        requires apart { IsApart setup.now.scenario self.old (below_rest call.interception.scope (action ∷ rest.now) (standing_of self.old.context)) }
-        requires playable { IsPlayable setup.now.scenario }
-        requires lines { 1 ≤ self.old.lines.spare }
-        requires frames { 1 ≤ self.old.frames.spare }
-        ensures goes { Comes setup.now.scenario self.old (acts_of setup.now.scenario call (action ∷ rest.now) thrown) self.new }
-        ensures sound { IsSound setup.now.scenario self.new (held self.new.stage) }
-        ensures moves { Moves (4 * (length rest.now + 1)) self.old self.new }
-    {
         match action {
             Action::RoundBeforeCompletion
             | Action::RoundAfterCommit
@@ -499,20 +459,8 @@ impl Machine {
         ensures held { held self.new.stage ≡ no_tokens }
         ensures moves { Moves (4 * (length rest.now + 1)) self.old self.new }
     {
-        let Intercepted {
-            method,
-            place,
-            catch,
-            mut interception,
-        } = call;
-        let suspended = interception.scope.take_held();
-        let call = Intercepted {
-            method,
-            place,
-            catch,
-            interception,
-        };
-        match suspended {
+        let mut call = call;
+        match call.interception.scope.take_held() {
             Some(suspended) => {
                 self.resume(suspended);
                 self.put_back(call, Phase::Completing { rest, thrown });
@@ -536,14 +484,7 @@ impl Machine {
         match call.interception.phase {
             Phase::Completing { rest, thrown } => self.go_on_with(call, rest, thrown),
             Phase::Opening => {
-                let Intercepted {
-                    method,
-                    catch,
-                    interception,
-                    place: _,
-                } = call;
-                drop(interception);
-                self.refuse(method, catch, CANNOT_CREATE_TRANSACTION_EXCEPTION);
+                self.refuse(call.method, call.catch, CANNOT_CREATE_TRANSACTION_EXCEPTION);
             }
             Phase::Running | Phase::Round(_) => unreachable!(),
         }

@@ -30,18 +30,9 @@ pub struct Machine {
 }
 
 impl Drop for Machine {
+    // As `into_lines` does, and the lines go too.
     fn drop(self) {
-        let Machine {
-            frames,
-            context,
-            top: _,
-            local: _,
-            tokens: _,
-            stage: _,
-            lines: _,
-        } = self;
-        give_up(frames);
-        context.retire();
+        drop(self.into_lines());
     }
 }
 

@@ -5,6 +5,7 @@ ghost use Rattle.stx_base.specs.Attributes.{attribute as attribute_in};
 ghost use Rattle.stx_base.specs.declared.line.Line.{Line as LineData};
 ghost use Rattle.stx_base.specs.declared.call.Want.{Want as WantData};
 ghost use Rattle.stx_model.specs.Meanings.{ask, finally, on_take, say};
+ghost use Rattle.stx_model.specs.Opening.{opening as opening_in};
 ghost use Rattle.stx_model.specs.Playable.{IsPlayable};
 ghost use Rattle.stx_model.specs.Scopes.{leaves, older_if, suspend};
 ghost use Rattle.stx_model.specs.Statements.{caught};
@@ -12,7 +13,7 @@ ghost use Rattle.std.specs.Option.{option_map};
 ghost use Rattle.stx_context.specs.Carrying.{bare, context_of};
 ghost use Rattle.stx_sync.specs.Registries.{registration};
 ghost use Rattle.stx_machine.specs.declared.stage.Stage.{Stage as StageData};
-ghost use Rattle.stx_machine.specs.Machine.{AreTold, Comes, IsClass, IsLonger, IsPushed, MovesOn, Resumes, SaysUnbind, Suspends, SuspendsIf, empty_opened, falls, fresh_begun, held_if, new_call, opened, point_opened, started, told_by, told_line as told_line_of, with_syncs_started};
+ghost use Rattle.stx_machine.specs.Machine.{AreTold, Comes, IsClass, IsLonger, IsPushed, MovesOn, Resumes, SaysUnbind, Suspends, SuspendsIf, attribute_of as attribute_at, empty_opened, falls, fresh_begun, held_if, new_call, opened, point_opened, started, told_by, told_line as told_line_of, with_syncs_started};
 ghost use Rattle.stx_machine.specs.Sound.{IsApart, IsCall, IsOpen, IsSound, IsWithin, Leaves, below_scope, held, no_tokens, rank_at, standing_of};
 
 use crate::calls::attribute_of;
@@ -30,6 +31,7 @@ use stx_sync::{Registered, Registry};
 
 impl Machine {
     /// Opens the scope of an intercepted call, or refuses it.
+    #[tactic(auto, using(crate::proofs::OpeningLaws::opened_so), unfolding(stx_model::specs::Scopes::opens))]
     pub fn open(
         &mut self,
         alloc: Global,
@@ -49,8 +51,7 @@ impl Machine {
         ensures sound { IsSound setup.now.scenario self.new (held self.new.stage) }
         ensures moves { MovesOn self.old self.new }
     {
-        let attribute = attribute_of(setup, method);
-        match opening(&setup.scenario.settings, attribute, &self.context) {
+        match self.opening_of(setup, method) {
             Opening::Refuse(class) => self.refuse(method, catch, class),
             Opening::Join => self.start(method, catch, Scope::new(Kind::Join, false, None)),
             Opening::Fresh { owns, .. } => self.open_fresh(method, catch, owns, told),
@@ -59,6 +60,15 @@ impl Machine {
             }
             Opening::Point => self.open_point(method, catch),
         }
+    }
+
+    // What the table says where this method is called with what is carried.
+    fn opening_of(&self, setup: &Setup, method: MethodNo) -> Opening
+        requires attribute { IsSome (attribute_in setup.now.scenario method) }
+        ensures { result ≡ opening_in setup.now.scenario.settings (attribute_at setup.now.scenario method) (context_of self.now.context) }
+    {
+        let attribute = attribute_of(setup, method);
+        opening(&setup.scenario.settings, attribute, &self.context)
     }
 
     /// Refuses a call with an exception of this class: no scope is opened, and its body never runs.

@@ -130,13 +130,7 @@ impl Stage {
             Stage::Releasing(tx) => Want::Release(tx),
             Stage::GivingBack(bound) => Want::Give(bound.connection),
             Stage::Done => Want::Done,
-            Stage::Over(_)
-            | Stage::Opening { .. }
-            | Stage::Completing
-            | Stage::Dealing(_)
-            | Stage::Rounding
-            | Stage::Resuming
-            | Stage::Failed => Want::Failed,
+            _ => Want::Failed,
         }
     }
 }

@@ -1,45 +1,36 @@
 -- The end of the scope is said, and its completion is due.
-use Rattle.std.proofs.Common.{◌≡◌, ◌∙◌, List, true, sym, ap, subst}
+use Rattle.std.proofs.Common.{◌≡◌, ◌∙◌, true, sym, ap, subst}
 use Rattle.stx_base.specs.declared.line.Line.{Line}
+use Rattle.stx_base.specs.declared.manager.Ending.{Ending}
 use Rattle.stx_model.specs.Ending.{ending}
-use Rattle.stx_model.specs.Meanings.{State, Result, say, finally}
-use Rattle.stx_model.specs.Scopes.{completes, ends, rolls, is_set}
-use Rattle.stx_model.specs.Statements.{caught}
+use Rattle.stx_model.specs.Meanings.{State, Result, say}
+use Rattle.stx_model.specs.Scopes.{ends, rolls, is_set}
 use Rattle.stx_context.specs.Carrying.{context_of}
 use Rattle.stx_machine.specs.declared.completion.Intercepted.{Intercepted}
 use Rattle.stx_machine.specs.declared.interception.Interception.{Interception}
 use Rattle.stx_machine.specs.declared.machine.Machine.{Machine}
-use Rattle.stx_machine.specs.Machine.{later_calls, unwound, stack, inside, attribute_of, scope_of, state_before}
+use Rattle.stx_machine.specs.Machine.{attribute_of, completes_of, onward, state_before}
 use Rattle.stx_machine.specs.Sound.{IsApart, IsEndingSo, below_scope, may_end, rank_at, standing_of}
 use Rattle.stx_machine.proofs.Endings.{ends_so}
 use Rattle.stx_machine.proofs.machine.Machine.end.Goals as goal
-
-pub go_on_to-requires-clause-kind : goal.go_on_to-requires-clause-kind
-go_on_to-requires-clause-kind c = sym c.kind-kind.ensures
 
 pub returns-clause-goes : goal.returns-clause-goes
 unfolding ends
 returns-clause-goes c n pool store =
     let S = c.args.setup.now.scenario in
-    let m = c.args.self.now in
     let call = c.args.call in
-    let i = call.interception in
-    let x = c.args.thrown in
-    let rules = (attribute_of S call.method).rules in
-    let ruled = c.rule-rolls_back.new.self in
     let says = c.rule-rolls_back.ensures.rules in
-    let e = c.ending-ending.result in
-    let before = ending i.scope.kind (rolls S rules x) (is_set m.local) (context_of m.context) in
-    let scope = scope_of call.method i in
-    let at : Machine → Result → Result = λ z r. later_calls S n z.top (unwound S (stack z.frames) (finally r (caught S call.catch))) in
-    let same : before ≡ e =
-    sym (c.ending-ending.ensures.ending ∙ (λ k. ending i.scope.kind (c.rule-rolls_back.ensures.rolls k) (is_set (says.rest k).local) (context_of (says.rest k).context))) in
-    let said : List Line → State = λ ls. record (state_before ruled pool store) { lines = ls } in
-    ap (λ st. at m (completes S (inside S call.method) scope before x (say (Line.End before) st))) (says.state pool store)
-    ∙ ap (λ z. at z (completes S (inside S call.method) scope before x (say (Line.End before) (state_before ruled pool store)))) (sym says.rest)
-    ∙ ap (λ z. at ruled (completes S (inside S call.method) scope z x (say (Line.End z) (state_before ruled pool store)))) same
-    ∙ ap (λ ls. at ruled (completes S (inside S call.method) scope e x (said ls))) (sym c.push.ensures.items)
-    ∙ ap (λ j. at ruled (completes S (inside S call.method) (scope_of call.method j) e x (said c.push.new.self.items))) (sym c.ending-ending.ensures.rest)
+    let ruled = c.rule-rolls_back.new.self in
+    let st = state_before ruled pool store in
+    let ends_so : Intercepted → Machine → Ending → State → Result = λ k z e st. onward S n z (completes_of S k e c.args.thrown st) in
+    let before = ending call.interception.scope.kind (rolls S (attribute_of S call.method).rules c.args.thrown) (is_set c.args.self.now.local) (context_of c.args.self.now.context) in
+    let same : before ≡ c.ending-ending.result =
+    sym (c.ending-ending.ensures.ending ∙ (λ k. ending call.interception.scope.kind (c.rule-rolls_back.ensures.rolls k) (is_set (says.rest k).local) (context_of (says.rest k).context))) in
+    ap (λ st. ends_so call c.args.self.now before (say (Line.End before) st)) (says.state pool store)
+    ∙ ap (λ z. ends_so call z before (say (Line.End before) st)) (sym says.rest)
+    ∙ ap (λ e. ends_so call ruled e (say (Line.End e) st)) same
+    ∙ ap (λ ls. ends_so call ruled c.ending-ending.result (record st { lines = ls })) (sym c.push.ensures.items)
+    ∙ ap (λ j. ends_so (record call { interception = j }) ruled c.ending-ending.result (record st { lines = c.push.new.self.items })) (sym c.ending-ending.ensures.rest)
     ∙ c.go_on_to.ensures.goes S n pool store
 
 pub returns-clause-sound : goal.returns-clause-sound

@@ -4,12 +4,11 @@ use Rattle.std.specs.Prelude.{Option}
 use Rattle.std.specs.Option.{option_map}
 use Rattle.stx_base.specs.declared.manager.Kind.{Kind}
 use Rattle.stx_model.specs.Contexts.{Context}
-use Rattle.stx_model.specs.Meanings.{State, Result, finally}
+use Rattle.stx_model.specs.Meanings.{State, Result}
 use Rattle.stx_model.specs.Scopes.{in_scope, empty, older_if}
-use Rattle.stx_model.specs.Statements.{caught}
 use Rattle.stx_context.specs.Carrying.{bare, context_of}
 use Rattle.stx_machine.specs.declared.machine.Machine.{Machine}
-use Rattle.stx_machine.specs.Machine.{later_calls, unwound, stack, inside, attribute_of, statements, started, state_before, state_with}
+use Rattle.stx_machine.specs.Machine.{inside, attribute_of, statements, started, state_before, state_with, onward_caught}
 use Rattle.stx_machine.proofs.machine.Machine.open_empty.Goals as goal
 
 pub start_syncs_if-requires : goal.start_syncs_if-requires
@@ -29,7 +28,7 @@ returns-clause-goes c S n pool store =
     let held = c.suspend_if-suspended.new.self in
     let before = c.start_syncs_if.new.self in
     let ensures = c.suspend_if-suspended.ensures in
-    let at : Machine → Result → Result = λ z r. later_calls S n z.top (unwound S (stack z.frames) (finally r (caught S c.args.catch))) in
+    let at : Machine → Result → Result = λ z r. onward_caught S n z c.args.catch r in
     let opens : Option Context → State → Result = λ older st. empty S (inside S method) method (attribute_of S method) (statements S method 0) owns older st in
     let older = option_map context_of c.suspend_if-suspended.result in
     let opened : Machine → Context → Result =

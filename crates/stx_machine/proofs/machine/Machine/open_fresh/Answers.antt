@@ -8,7 +8,7 @@ use Rattle.stx_manager.specs.Scopes.{OpenScope, new_scope}
 use Rattle.stx_context.specs.Carrying.{context_of}
 use Rattle.stx_machine.specs.declared.interception.Phase.{Phase}
 use Rattle.stx_machine.specs.declared.stage.Stage.{Stage}
-use Rattle.stx_machine.specs.Machine.{Call, later_calls, unwound, stack, fresh_begun, new_call, piece, run, state_before}
+use Rattle.stx_machine.specs.Machine.{Call, later_calls, unwound, stack, fresh_begun, new_call, piece, run, state_before, onward}
 use Rattle.stx_machine.proofs.Stacks.{pushed}
 use Rattle.stx_machine.proofs.machine.Machine.open_fresh.Goals as goal
 
@@ -23,8 +23,8 @@ returns-clause-goes c S n pool store =
     let waits : List Call → Result = λ fs. later_calls S n held.top (unwound S fs (piece S fs Stage.Taking st)) in
     let scope_is : c.new-scope.result ≡ new_scope Kind.Fresh c.args.owns (Some m.context) =
     c.new-scope.ensures ∙ ap (λ h. new_scope Kind.Fresh c.args.owns (Some h)) c.suspend-suspended.ensures.held in
-    ap (λ st. later_calls S n m.top (unwound S (stack m.frames) (takes st))) (c.suspend-suspended.ensures.suspends.state pool store)
-    ∙ ap (λ z. later_calls S n z.top (unwound S (stack z.frames) (takes st))) (sym c.suspend-suspended.ensures.suspends.rest)
+    ap (λ st. onward S n m (takes st)) (c.suspend-suspended.ensures.suspends.state pool store)
+    ∙ ap (λ z. onward S n z (takes st)) (sym c.suspend-suspended.ensures.suspends.rest)
     ∙ ap (λ scope. waits (call scope ∷ stack held.frames)) (sym scope_is)
     ∙ ap waits (sym (pushed held.frames c.push_call.new.self.frames (call c.new-scope.result) c.push_call.ensures.frames))
     ∙ ap (λ z. run S n (record z { stage = Stage.Taking }) pool store) (sym c.push_call.ensures.rest)
