@@ -5,21 +5,17 @@ use Rattle.stx_scenario.specs.declared.numbers.ClassNo.{ClassNo}
 use Rattle.stx_scenario.specs.declared.numbers.MethodNo.{MethodNo}
 use Rattle.stx_scenario.specs.declared.scenario.Scenario.{Scenario}
 use Rattle.stx_scenario.specs.Rooms.{Room}
-use Rattle.stx_model.specs.Meanings.{State, Result, Meaning, finally}
+use Rattle.stx_model.specs.Meanings.{State, Meaning, finally}
 use Rattle.stx_model.specs.Rounds.{Way}
 use Rattle.stx_model.specs.Script.{calls_below, invoked}
 use Rattle.stx_model.specs.Statements.{caught}
 use Rattle.stx_context.specs.Carrying.{context_of}
 use Rattle.stx_machine.specs.declared.completion.Intercepted.{Intercepted}
 use Rattle.stx_machine.specs.declared.machine.Machine.{Machine}
-use Rattle.stx_machine.specs.Machine.{Call, Comes, frame_after, inside, later_calls, on_top, stack, state_before, state_with, unwound}
+use Rattle.stx_machine.specs.Machine.{Call, Comes, frame_after, inside, later_calls, on_top, onward, stack, state_before, state_with, unwound}
 use Rattle.stx_machine.specs.Sound.{IsCall}
 use Rattle.stx_machine.proofs.TopLaws.{called_at}
 use Rattle.stx_machine.proofs.Stacks.{popped, resume_pushed, with_top}
-
--- the client's further calls, after a piece of the innermost frame that came to this
-abbrev pub onward : Scenario → ℕ → Machine → Result → Result
-onward S n m r = later_calls S n m.top (unwound S (stack m.frames) r)
 
 -- this frame was taken off
 pub popped_top : (old new : Room Call) (top : Option Call) (f : Call) → top ≡ Some f → old.items ≡ new.items ++ option_to_list top → stack old ≡ f ∷ stack new

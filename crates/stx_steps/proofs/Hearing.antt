@@ -4,7 +4,6 @@ use Rattle.std.specs.Prelude.{IsSome}
 use Rattle.std.proofs.lemmas.Bool.{false≢true}
 use Rattle.stx_scenario.specs.declared.classes.TheConstants.{CANNOT_GET_JDBC_CONNECTION_EXCEPTION}
 use Rattle.stx_scenario.specs.declared.numbers.ClassNo.{ClassNo}
-use Rattle.stx_scenario.specs.declared.numbers.ListenerNo.{ListenerNo}
 use Rattle.stx_scenario.specs.declared.numbers.MethodNo.{MethodNo}
 use Rattle.stx_scenario.specs.declared.scenario.Scenario.{Scenario}
 use Rattle.stx_base.specs.declared.call.Want.{Want}
@@ -15,7 +14,6 @@ use Rattle.stx_base.specs.declared.history.PoolNote.{PoolNote}
 use Rattle.stx_base.specs.declared.history.StoreNote.{StoreNote}
 use Rattle.stx_base.specs.declared.line.Line.{Line}
 use Rattle.stx_base.specs.declared.manager.Action.{Action}
-use Rattle.stx_base.specs.declared.manager.Round.{Round}
 use Rattle.stx_base.specs.Notes.{is_answer, pool_answers, pool_line, store_answers, store_line}
 use Rattle.stx_model.specs.Contexts.{Context, with_global_mark}
 use Rattle.stx_model.specs.Meanings.{State, Meaning, ask, hear, on_access, on_begin, on_take, unread, with_context, with_local}
@@ -25,7 +23,6 @@ use Rattle.stx_model.specs.Statements.{concludes, throws, unless_busy}
 use Rattle.stx_model.proofs.Steady.{asked}
 use Rattle.stx_context.specs.Carrying.{context_of}
 use Rattle.stx_frames.specs.declared.frame.Frame.{Frame}
-use Rattle.stx_sync.specs.declared.registered.Registered.{Registered}
 use Rattle.stx_machine.specs.declared.interception.Interception.{Interception}
 use Rattle.stx_machine.specs.declared.machine.Machine.{Machine}
 use Rattle.stx_machine.specs.declared.stage.Bound.{Bound}
@@ -33,12 +30,11 @@ use Rattle.stx_machine.specs.declared.stage.Place.{Place}
 use Rattle.stx_machine.specs.declared.stage.Stage.{Stage}
 use Rattle.stx_machine.specs.declared.stage.Then.{Then}
 use Rattle.stx_machine.specs.declared.tokens.Tokens.{Tokens}
-use Rattle.stx_machine.specs.Machine.{Call, Comes, IsIntercepting, accesses, begun, completes, context_at, does, inside, of_call, of_top, piece, pointed, rest_of, row_access, row_answered, run, scope_of, stack, state_before, state_with, thrown_of, want_of}
-use Rattle.stx_machine.specs.Sound.{CallCompletes, CallOpens, CallPoints, GivesLast, IsSound, Standing, StageFits, brought, held_out, is_resumption, standing_of}
-use Rattle.stx_machine.proofs.Stacks.{mapped_some}
+use Rattle.stx_machine.specs.Machine.{Call, Comes, Innermost, accesses, begun, completes, context_at, does, inside, of_call, of_top, piece, pointed, rest_of, row_access, row_answered, run, scope_of, stack, state_before, state_with, thrown_of, want_of, onward}
+use Rattle.stx_machine.specs.Sound.{CallCompletes, GivesLast, IsSound, Standing, StageFits, brought, held_out, is_resumption, standing_of}
+use Rattle.stx_machine.proofs.Stacks.{each_innermost, mapped_some}
 use Rattle.stx_machine.proofs.Standings.{resumption_is}
 use Rattle.stx_steps.specs.Steps.{HearsPool, HearsStore, before_line, finds_none, starts, starts_on, starts_pointed}
-use Rattle.stx_steps.proofs.Coming.{onward}
 
 module _ (lines : List Line) (local : Option Bool) (pool : List PoolNote) (store : List StoreNote) where
   at : Context → State
@@ -59,35 +55,11 @@ module _ (lines : List Line) (local : Option Bool) (pool : List PoolNote) (store
       ap (λ r. acts S calls scope r x (at one)) only ∙ either_resumes scope scope.older x one other older ∙ ap (λ r. acts S calls scope r x (at other)) (sym only)
 
   last_completes : (S : Scenario) (fs : List Call) (one other : Context) → GivesLast fs → of_top S fs Stage.Completing (at one) ≡ of_top S fs Stage.Completing (at other)
-  last_completes S (Frame.Body m place catch (Some i) ∷ fs) one other last =
-      last_resumes S (inside S m) (scope_of m i) (rest_of i.phase) (thrown_of i.phase) one other last.0 (mapped_some i.scope.suspended last.1)
-  last_completes S (Frame.Body m place catch None ∷ fs) one other last = absurd last
-  last_completes S (Frame.Round round todo at_ place x ∷ fs) one other last = absurd last
-  last_completes S (Frame.Now listener place ∷ fs) one other last = absurd last
-  last_completes S [] one other last = absurd last
+  last_completes S fs one other =
+      each_innermost _ (λ fs. of_top S fs Stage.Completing (at one) ≡ of_top S fs Stage.Completing (at other))
+      (λ m place catch i fs last. last_resumes S (inside S m) (scope_of m i) (rest_of i.phase) (thrown_of i.phase) one other last.0 (mapped_some i.scope.suspended last.1)) fs
 
 -- ---- the innermost call asks
-
--- no other than an intercepted call does
-module _ (Asks : List Call → Type 0) (plain : (m : MethodNo) (place : ℕ) (catch : Option ClassNo) (fs : List Call) → Asks (Frame.Body m place catch None ∷ fs) → ⊥)
-    (round : (r : Round) (todo : List Registered) (at place : ℕ) (x : Option ClassNo) (fs : List Call) → Asks (Frame.Round r todo at place x ∷ fs) → ⊥)
-    (now : (l : ListenerNo) (place : ℕ) (fs : List Call) → Asks (Frame.Now l place ∷ fs) → ⊥) (none : Asks [] → ⊥) where
-  only_intercepted : (fs : List Call) → Asks fs → IsIntercepting fs
-  only_intercepted (Frame.Body m place catch (Some i) ∷ fs) asks = tt
-  only_intercepted (Frame.Body m place catch None ∷ fs) asks = absurd (plain m place catch fs asks)
-  only_intercepted (Frame.Round r todo at place x ∷ fs) asks = absurd (round r todo at place x fs asks)
-  only_intercepted (Frame.Now l place ∷ fs) asks = absurd (now l place fs asks)
-  only_intercepted [] asks = absurd (none asks)
-
-opens_intercepted : (S : Scenario) (fs : List Call) → CallOpens S fs → IsIntercepting fs
-opens_intercepted S = only_intercepted (CallOpens S) (λ m place catch fs no. no) (λ r todo at place x fs no. no) (λ l place fs no. no) (λ no. no)
-
-points_intercepted : (S : Scenario) (standing : Standing) (fs : List Call) → CallPoints S standing fs → IsIntercepting fs
-points_intercepted S standing = only_intercepted (CallPoints S standing) (λ m place catch fs no. no) (λ r todo at place x fs no. no) (λ l place fs no. no) (λ no. no)
-
-completes_intercepted : (S : Scenario) (standing : Standing) (fs : List Call) → CallCompletes S standing fs → IsIntercepting fs
-completes_intercepted S standing =
-    only_intercepted (CallCompletes S standing) (λ m place catch fs no. no) (λ r todo at place x fs no. no) (λ l place fs no. no) (λ no. no)
 
 module _ (S : Scenario) (w : Want) (note : Note) (st : State) (here : unread w st ≡ Some note) (suits : is_answer w note ≡ true) (stage : Stage) where
   -- the call asks for the note, and goes on with it
@@ -95,18 +67,15 @@ module _ (S : Scenario) (w : Want) (note : Note) (st : State) (here : unread w s
       → ((m : MethodNo) (i : Interception) → of_call S m i stage st ≡ ask w (next m i) st)
       → ((m : MethodNo) (place : ℕ) (catch : Option ClassNo) (i : Interception) (fs : List Call)
       → next m i note (hear note st) ≡ later (Frame.Body m place catch (Some i) ∷ fs) (hear note st))
-      → (fs : List Call) → IsIntercepting fs → of_top S fs stage st ≡ later fs (hear note st)
-  goes_on_with next later asks same (Frame.Body m place catch (Some i) ∷ fs) is = asks m i ∙ asked w (next m i) st note true here suits ∙ same m place catch i fs
-  goes_on_with next later asks same (Frame.Body m place catch None ∷ fs) is = absurd is
-  goes_on_with next later asks same (Frame.Round r todo at place x ∷ fs) is = absurd is
-  goes_on_with next later asks same (Frame.Now l place ∷ fs) is = absurd is
-  goes_on_with next later asks same [] is = absurd is
+      → (Asks : MethodNo → ℕ → Option ClassNo → Interception → List Call → Type 0) (fs : List Call) → Innermost Asks fs → of_top S fs stage st ≡ later fs (hear note st)
+  goes_on_with next later asks same Asks =
+      each_innermost Asks (λ fs. of_top S fs stage st ≡ later fs (hear note st)) (λ m place catch i fs is. asks m i ∙ asked w (next m i) st note true here suits ∙ same m place catch i fs)
 
   -- with its completion
   completes_on : ((m : MethodNo) (i : Interception) → of_call S m i stage st ≡ ask w (λ _. completes S m i (rest_of i.phase)) st)
       → (standing : Standing) (fs : List Call) → CallCompletes S standing fs → of_top S fs stage st ≡ of_top S fs Stage.Completing (hear note st)
   completes_on asks standing fs completing =
-      goes_on_with (λ m i _. completes S m i (rest_of i.phase)) (λ fs. of_top S fs Stage.Completing) asks (λ m place catch i fs. refl) fs (completes_intercepted S standing fs completing)
+      goes_on_with (λ m i _. completes S m i (rest_of i.phase)) (λ fs. of_top S fs Stage.Completing) asks (λ m place catch i fs. refl) _ fs completing
 
 -- ---- a note whose line was said
 
@@ -181,7 +150,7 @@ module _ {S : Scenario} {m : Machine} where
   heard_begin c t = record {
     goes = λ fits suits lines pool store.
         goes_on_with S Want.Begin (Note.Store (StoreNote.Begin t)) (unread_at m (Stage.Beginning c) lines pool (StoreNote.Begin t ∷ store)) refl refl (Stage.Beginning c)
-        (λ n i. on_begin (starts_on S n i c)) (λ fs. starts S fs c t) (λ n i. refl) (λ n place catch i fs. refl) (stack m.frames) (opens_intercepted S (stack m.frames) fits.1);
+        (λ n i. on_begin (starts_on S n i c)) (λ fs. starts S fs c t) (λ n i. refl) (λ n place catch i fs. refl) _ (stack m.frames) fits.1;
   }
 
   pub heard_commit : (t u k : ℕ) → StoreHeard S m (Stage.Committing t) (StoreNote.Commit u k) (of_top S (stack m.frames) Stage.Completing)
@@ -211,29 +180,29 @@ module _ {S : Scenario} {m : Machine} where
     goes = λ fits suits lines pool store.
         goes_on_with S (Want.BackTo t) (Note.Store (StoreNote.BackTo u)) (unread_at m (Stage.GoingBack t) lines pool (StoreNote.BackTo u ∷ store)) refl suits (Stage.GoingBack t)
         (λ n i _ back. completes S n i (rest_of i.phase) (with_context (with_global_mark false back.context) back))
-        (λ fs st. of_top S fs Stage.Completing (with_context (with_global_mark false st.context) st)) (λ n i. refl) (λ n place catch i fs. refl) (stack m.frames)
-        (completes_intercepted S (standing_of m.context) (stack m.frames) fits);
+        (λ fs st. of_top S fs Stage.Completing (with_context (with_global_mark false st.context) st)) (λ n i. refl) (λ n place catch i fs. refl) _
+        (stack m.frames) fits;
   }
 
   pub heard_point : (t u : ℕ) → StoreHeard S m (Stage.Pointing t) (StoreNote.Point u) (starts_pointed S (stack m.frames))
   heard_point t u = record {
     goes = λ fits suits lines pool store.
         goes_on_with S (Want.Point t) (Note.Store (StoreNote.Point u)) (unread_at m (Stage.Pointing t) lines pool (StoreNote.Point u ∷ store)) refl suits (Stage.Pointing t)
-        (λ n i _. pointed S n) (starts_pointed S) (λ n i. refl) (λ n place catch i fs. refl) (stack m.frames) (points_intercepted S (standing_of m.context) (stack m.frames) fits);
+        (λ n i _. pointed S n) (starts_pointed S) (λ n i. refl) (λ n place catch i fs. refl) _ (stack m.frames) fits;
   }
 
   pub heard_taken : (c : ℕ) → PoolHeard S m Stage.Taking (PoolNote.Taken c) (of_top S (stack m.frames) (Stage.Beginning c))
   heard_taken c = record {
     goes = λ fits suits lines pool store.
         goes_on_with S Want.Take (Note.Pool (PoolNote.Taken c)) (unread_at m Stage.Taking lines (PoolNote.Taken c ∷ pool) store) refl refl Stage.Taking
-        (λ n i. on_take (begun S n i)) (λ fs. of_top S fs (Stage.Beginning c)) (λ n i. refl) (λ n place catch i fs. refl) (stack m.frames) (opens_intercepted S (stack m.frames) fits.1);
+        (λ n i. on_take (begun S n i)) (λ fs. of_top S fs (Stage.Beginning c)) (λ n i. refl) (λ n place catch i fs. refl) _ (stack m.frames) fits.1;
   }
 
   pub heard_empty : PoolHeard S m Stage.Taking PoolNote.Empty (finds_none S (stack m.frames))
   heard_empty = record {
     goes = λ fits suits lines pool store.
         goes_on_with S Want.Take (Note.Pool PoolNote.Empty) (unread_at m Stage.Taking lines (PoolNote.Empty ∷ pool) store) refl refl Stage.Taking (λ n i. on_take (begun S n i)) (finds_none S)
-        (λ n i. refl) (λ n place catch i fs. refl) (stack m.frames) (opens_intercepted S (stack m.frames) fits.1);
+        (λ n i. refl) (λ n place catch i fs. refl) _ (stack m.frames) fits.1;
   }
 
   pub heard_connection : (a : Access) (d : Then) (c : ℕ) → PoolHeard S m (Stage.Connecting a d) (PoolNote.Taken c) (accesses (Place.Connection c) a d)

@@ -12,7 +12,6 @@ use Rattle.stx_scenario.specs.declared.scenario.Listener.{Listener}
 use Rattle.stx_scenario.specs.declared.scenario.Scenario.{Scenario}
 use Rattle.stx_scenario.specs.declared.scenario.Stmt.{Stmt}
 use Rattle.stx_scenario.specs.declared.scenario.SyncDecl.{SyncDecl}
-use Rattle.stx_base.specs.declared.history.Access.{Access}
 use Rattle.stx_base.specs.declared.history.PoolNote.{PoolNote}
 use Rattle.stx_base.specs.declared.history.StoreNote.{StoreNote}
 use Rattle.stx_base.specs.declared.line.Label.{Label}
@@ -31,7 +30,7 @@ use Rattle.stx_model.specs.Listeners.{runs_in}
 use Rattle.stx_model.specs.Meanings.{State, Result, Over, and_then, say, with_context, finally}
 use Rattle.stx_model.specs.Playable.{IsPlayable}
 use Rattle.stx_model.specs.Scopes.{later_or}
-use Rattle.stx_model.specs.Script.{deals, statement}
+use Rattle.stx_model.specs.Script.{deals}
 use Rattle.stx_model.specs.Statements.{caught}
 use Rattle.stx_model.specs.Rounds.{Calls, callback, callback_line, callback_statement, called_back, listens_in, stopping_round, swallowing_round, sync_body, told}
 use Rattle.stx_context.specs.Carrying.{Carried, context_of}
@@ -45,14 +44,12 @@ use Rattle.stx_machine.specs.declared.machine.Machine.{Machine}
 use Rattle.stx_steps.specs.declared.rounds.Telling.{Telling}
 use Rattle.stx_machine.specs.declared.interception.Phase.{Phase}
 use Rattle.stx_machine.specs.declared.stage.Stage.{Stage}
-use Rattle.stx_machine.specs.declared.stage.Then.{Then}
-use Rattle.stx_machine.specs.Machine.{AreTold, Call, IsClass, access_in, course_after, later_calls, put_back, row_in, run, state_before, whole_round, callback_of, last_told, left_round, listener_callback, rest_after, unwound, stack, status, stops, tells, told_after, untold, caller_rank, later_deeds, now_after, publication_of, Comes, acts_of, after_round, inside, of_top, on_top, phase_after, rounds_call}
+use Rattle.stx_machine.specs.Machine.{AreTold, Call, IsClass, course_after, later_calls, put_back, run, state_before, whole_round, callback_of, last_told, left_round, listener_callback, rest_after, unwound, stack, status, stops, tells, told_after, untold, caller_rank, later_deeds, now_after, publication_of, Comes, acts_of, after_round, inside, of_top, on_top, phase_after, rounds_call, onward}
 use Rattle.stx_steps.specs.Steps.{IsToldOn, round_frame, begins_callback, listener_runs, telling_after, IsNext, IsTelling, MayCallBack, IsTakenOff, SaysCallback, TakesRound, tells_on}
 use Rattle.stx_machine.specs.Sound.{CallsRun, IsApart, IsAtRound, IsCall, IsPartTold, IsWithin, Shelters, Standing, below_rest, below_round, bond_of, due_after, due_in, due_told, ends_after, ends_syncs, is_due, no_tokens, rank_at, releases, standing_of, standing_under, without_own, BeginsRound, CallRounds, IsIntercepted, below_phase, owns_in}
-use Rattle.stx_steps.proofs.Coming.{comes_off, onward}
+use Rattle.stx_steps.proofs.Coming.{comes_off}
 use Rattle.stx_machine.proofs.Endings.{refused_releases, refused_ends}
 use Rattle.stx_model.proofs.Callable.{by_order_all}
-use Rattle.stx_machine.proofs.RowLaws.{row_is}
 use Rattle.stx_machine.proofs.Places.{all_at, drop_at, drop_past}
 
 -- ---- a round on top
@@ -236,25 +233,6 @@ module _ (S : Scenario) (calls : Calls) (body : List Stmt) (place : ℕ) (st : S
   unfolding callback
   over_called (Some x) past = refl
   over_called None past = ap (λ b. callback S calls b st) (drop_past body place (past refl))
-
-module _ (S : Scenario) (calls : Calls) (st : State) where
-  as_statement : (s : Stmt) (a : Access) (d : Then) → access_in s ≡ Some (a, d) → callback_statement S calls s st ≡ statement S calls s st
-  unfolding statement
-  as_statement (Stmt.Read k) a d is = refl
-  as_statement (Stmt.Write k v) a d is = refl
-  as_statement (Stmt.Erase k) a d is = refl
-  as_statement (Stmt.Need k n) a d is = refl
-  as_statement (Stmt.Add k n) a d is = refl
-  as_statement (Stmt.Call m catch) a d is = refl
-  as_statement (Stmt.Throw x) a d is = refl
-  as_statement (Stmt.This m catch) a d is = cc
-  as_statement Stmt.Mark a d is = cc
-  as_statement (Stmt.Publish e) a d is = cc
-  as_statement (Stmt.Register r) a d is = cc
-
-  -- a statement on a row is its first access, and what is done with the answer
-  pub row_called : (s : Stmt) (a : Access) (d : Then) → access_in s ≡ Some (a, d) → callback_statement S calls s st ≡ row_in st.context.tx a d st
-  row_called s a d is = as_statement s a d is ∙ row_is S calls st s a d is
 
 module _ (S : Scenario) (calls : Calls) (course : Course) (todo : List Registered) (at place : ℕ) (st : State) where
   -- where it is over, those are told that are left

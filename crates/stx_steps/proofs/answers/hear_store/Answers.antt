@@ -4,9 +4,8 @@ use Rattle.stx_base.specs.declared.history.Note.{Note}
 use Rattle.stx_context.specs.Carrying.{context_of}
 use Rattle.stx_machine.specs.declared.machine.Machine.{Machine}
 use Rattle.stx_machine.specs.declared.stage.Stage.{Stage}
-use Rattle.stx_machine.specs.Machine.{of_top, stack, state_with}
+use Rattle.stx_machine.specs.Machine.{of_top, stack, state_with, onward}
 use Rattle.stx_machine.specs.Sound.{standing_of}
-use Rattle.stx_steps.proofs.Coming.{onward}
 use Rattle.stx_steps.proofs.Hearing.{hears_store, heard_access, heard_auto, heard_begin, heard_commit, heard_point, heard_release, heard_return, heard_rollback, sound_at}
 use Rattle.stx_machine.proofs.Standings.{points_before}
 use Rattle.stx_steps.proofs.answers.hear_store.Goals as goal

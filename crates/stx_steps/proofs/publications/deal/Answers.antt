@@ -6,9 +6,8 @@ use Rattle.stx_model.specs.Listeners.{Deed as DealtDeed}
 use Rattle.stx_model.specs.Script.{deals}
 use Rattle.stx_events.specs.declared.deeds.Deed.{Deed}
 use Rattle.stx_events.specs.Deeds.{deed_of}
-use Rattle.stx_machine.specs.Machine.{Shrinks, calls_at, dealt, later_deeds, stack, state_before}
+use Rattle.stx_machine.specs.Machine.{Shrinks, calls_at, dealt, later_deeds, stack, state_before, onward}
 use Rattle.stx_machine.specs.Sound.{standing_of}
-use Rattle.stx_steps.proofs.Coming.{onward}
 use Rattle.stx_steps.proofs.Dealings.{below_next, below_run, deals_registered, deals_run, deals_skipped, first_none}
 use Rattle.stx_machine.proofs.Standings.{over_body}
 use Rattle.stx_steps.proofs.publications.deal.Goals as goal

@@ -6,10 +6,10 @@ use Rattle.stx_model.specs.Meanings.{Over}
 use Rattle.stx_model.specs.Rounds.{callback_statement}
 use Rattle.stx_model.specs.Script.{deals}
 use Rattle.stx_frames.specs.declared.frame.Frame.{Frame}
-use Rattle.stx_machine.specs.Machine.{Comes, calls_at, caller_rank, later_deeds, now_after, stack, state_before}
+use Rattle.stx_machine.specs.Machine.{Comes, calls_at, caller_rank, later_deeds, now_after, stack, state_before, onward}
 use Rattle.stx_steps.specs.Steps.{IsNext, MayCallBack}
 use Rattle.stx_steps.proofs.BodyLaws.{moves_from}
-use Rattle.stx_steps.proofs.Coming.{comes_pushed, onward}
+use Rattle.stx_steps.proofs.Coming.{comes_pushed}
 use Rattle.stx_steps.proofs.RoundLaws.{may_listen, now_ends, now_next}
 use Rattle.stx_machine.proofs.Stacks.{pushed}
 use Rattle.stx_steps.proofs.publications.go_on_listener.Goals as goal

@@ -1,11 +1,11 @@
 -- Each statement of a callback.
 use Rattle.std.proofs.Common.{◌∙◌, sym, ap, subst}
 use Rattle.stx_model.specs.Rounds.{Proxied, callback_statement}
-use Rattle.stx_machine.specs.Machine.{Comes, Waits, calls_at, stack, state_before}
+use Rattle.stx_machine.specs.Machine.{Comes, Waits, calls_at, stack, state_before, onward}
 use Rattle.stx_machine.specs.Sound.{rank_at}
 use Rattle.stx_steps.specs.Steps.{MayCallBack}
-use Rattle.stx_steps.proofs.RoundLaws.{row_called}
-use Rattle.stx_steps.proofs.Coming.{comes_called, onward}
+use Rattle.stx_machine.proofs.RowLaws.{row_called}
+use Rattle.stx_steps.proofs.Coming.{comes_called}
 use Rattle.stx_steps.proofs.rounds.make_in_callback.Goals as goal
 
 pub returns-in-Call-clause-goes : goal.returns-in-Call-clause-goes

@@ -1,9 +1,8 @@
 -- The next callback begins, or the round is over.
 use Rattle.std.proofs.Common.{◌∙◌, sym, ap, subst}
 use Rattle.std.specs.Option.{option_copied}
-use Rattle.stx_machine.specs.Machine.{state_before}
+use Rattle.stx_machine.specs.Machine.{state_before, onward}
 use Rattle.stx_steps.specs.Steps.{SaysCallback}
-use Rattle.stx_steps.proofs.Coming.{onward}
 use Rattle.stx_steps.proofs.RoundLaws.{goes_next, none_next, within_next}
 use Rattle.stx_steps.proofs.rounds.tell_next.Goals as goal
 

@@ -9,10 +9,10 @@ use Rattle.stx_model.specs.Rounds.{Proxied, Direct, callback_statement}
 use Rattle.stx_model.specs.Listeners.{deeds}
 use Rattle.stx_model.specs.Script.{calls_below, publishes, statement, invoked}
 use Rattle.stx_machine.specs.declared.machine.Machine.{Machine}
-use Rattle.stx_machine.specs.Machine.{Comes, inside, state_before}
+use Rattle.stx_machine.specs.Machine.{Comes, inside, state_before, onward}
 use Rattle.stx_machine.specs.Sound.{DeedsBelow, IsCall}
 use Rattle.stx_steps.specs.Steps.{MayMake}
-use Rattle.stx_steps.proofs.Coming.{comes_called, onward}
+use Rattle.stx_steps.proofs.Coming.{comes_called}
 use Rattle.stx_machine.proofs.RowLaws.{row_is}
 use Rattle.stx_steps.proofs.steps.make.Goals as goal
 
