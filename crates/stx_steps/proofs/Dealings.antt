@@ -9,7 +9,7 @@ use Rattle.stx_scenario.specs.declared.scenario.Scenario.{Scenario}
 use Rattle.stx_scenario.specs.declared.scenario.Listener.{Listener}
 use Rattle.stx_events.specs.declared.deeds.Deed.{Deed as DeedData}
 use Rattle.stx_events.specs.Deeds.{deed_of}
-use Rattle.stx_model.specs.Listeners.{Deed, RunNow, Skip, Numbered, dealt_with, deed, deeds, listening}
+use Rattle.stx_model.specs.Listeners.{Deed, Register, RunNow, Skip, Numbered, dealt_with, deed, deeds, listening}
 use Rattle.stx_base.specs.declared.line.Line.{Line}
 use Rattle.stx_model.specs.Below.{listener_body}
 use Rattle.stx_model.specs.Meanings.{Over, State, and_then, say}
@@ -19,7 +19,8 @@ use Rattle.stx_model.specs.Orders.{by_order, inserted}
 use Rattle.stx_model.proofs.Callable.{by_order_all}
 use Rattle.stx_model.proofs.CallableLaw.{filter_all, map_all, numbered_all}
 use Rattle.stx_machine.specs.declared.stage.Publication.{Publication}
-use Rattle.stx_machine.specs.Machine.{dealt, deeds_after, event_of, later_deeds, later_than, listener_of, publication_of}
+use Rattle.stx_machine.specs.Machine.{dealt, deeds_after, event_of, later_deeds, later_than, listener_of, publication_of, registers_one, runs_one}
+use Rattle.stx_machine.specs.Sound.{DeedsBelow}
 use Rattle.stx_steps.specs.Steps.{first_deed}
 
 -- ---- each number once
@@ -116,8 +117,7 @@ listener_is false l = by_fallback l.1.fallback
     by_fallback false = refl
 
 abbrev DeedApart : ℕ → List Deed → Type 0
-DeedApart n [] = ⊤
-DeedApart n (d ∷ ds) = (n ≢ (listener_of d).0) × DeedApart n ds
+DeedApart n ds = AllByRecursion (λ d. n ≢ (listener_of d).0) ds
 
 abbrev DeedsDistinct : List Deed → Type 0
 DeedsDistinct [] = ⊤
@@ -139,12 +139,12 @@ by_other : (t : Bool) (a b : ℕ) (here there : List Deed) → (a == b) ≡ t �
 by_other true a b here there is other = absurd (other (eqb-true a b is))
 by_other false a b here there is other = refl
 
-still_apart : (n : ℕ) (l : ListenerNo) (ds : List Deed) → DeedApart n ds → DeedApart n (later_than l ds)
-still_apart n l [] apart = tt
-still_apart n l (d ∷ ds) apart = by_first (l.0 == (listener_of d).0) (still_apart n l ds apart.1)
+later_all : (P : Deed → Type 0) (l : ListenerNo) (ds : List Deed) → AllByRecursion P ds → AllByRecursion P (later_than l ds)
+later_all P l [] all = tt
+later_all P l (d ∷ ds) all = by_first (l.0 == (listener_of d).0) (later_all P l ds all.1)
   where
-    by_first : (b : Bool) → DeedApart n (later_than l ds) → DeedApart n (elim b as (λ _. List Deed) [ true ↦ ds | false ↦ later_than l ds ])
-    by_first true rest = apart.1
+    by_first : (b : Bool) → AllByRecursion P (later_than l ds) → AllByRecursion P (elim b as (λ _. List Deed) [ true ↦ ds | false ↦ later_than l ds ])
+    by_first true rest = all.1
     by_first false rest = rest
 
 -- after the next deed
@@ -160,14 +160,14 @@ next_than l (x ∷ xs) d ds distinct is = by_first (l.0 == (listener_of x).0) (n
     by_first true further first =
         here (subst (DeedApart (listener_of x).0) first distinct.0)
         (ap (later_than (listener_of d)) first ∙ by_same (listener_of d).0 (listener_of d).0 ds (later_than (listener_of d) ds) refl)
-    by_first false further first = here (subst (DeedApart (listener_of x).0) first (still_apart (listener_of x).0 l xs distinct.0)) (further first)
+    by_first false further first = here (subst (DeedApart (listener_of x).0) first (later_all (λ y. (listener_of x).0 ≢ (listener_of y).0) l xs distinct.0)) (further first)
 
 next_after : (after : Option ListenerNo) (all : List Deed) (d : Deed) (ds : List Deed) → DeedsDistinct all → deeds_after after all ≡ d ∷ ds → later_than (listener_of d) all ≡ ds
 next_after None all d ds distinct is =
     ap (later_than (listener_of d)) is ∙ by_same (listener_of d).0 (listener_of d).0 ds (later_than (listener_of d) ds) refl
 next_after (Some l) all d ds distinct is = next_than l all d ds distinct is
 
-pub later_is : (S : Scenario) (p : Publication) (d : Deed) (ds : List Deed) → later_deeds S p ≡ d ∷ ds → later_deeds S (dealt p (listener_of d)) ≡ ds
+later_is : (S : Scenario) (p : Publication) (d : Deed) (ds : List Deed) → later_deeds S p ≡ d ∷ ds → later_deeds S (dealt p (listener_of d)) ≡ ds
 unfolding deeds
 later_is S p d ds is =
     next_after p.after (deeds S p.event p.registers p.registers) d ds (deeds_distinct (p.registers && p.registers) (dealt_with S p.event) (dealt_distinct S p.event)) is
@@ -178,7 +178,7 @@ pub first_none : (ds : List Deed) → None ≡ first_deed ds → ds ≡ []
 first_none [] is = refl
 first_none (d ∷ ds) is = cc
 
-pub first_some : (ds : List Deed) (d : Deed) → Some d ≡ first_deed ds → (rest : List Deed) × (ds ≡ d ∷ rest)
+first_some : (ds : List Deed) (d : Deed) → Some d ≡ first_deed ds → (rest : List Deed) × (ds ≡ d ∷ rest)
 first_some [] d is = absurd cc
 first_some (x ∷ xs) d is =
     let same : x ≡ d = cc in (xs, ap (λ y. y ∷ xs) same)
@@ -211,14 +211,6 @@ run_deeds : (S : Scenario) (e : EventNo) (b : Bool) (xs : List Numbered) → All
 run_deeds S e b [] all = tt
 run_deeds S e b (x ∷ xs) all = (run_deed S e b x all.0, run_deeds S e b xs all.1)
 
-later_all : (P : Deed → Type 0) (l : ListenerNo) (ds : List Deed) → AllByRecursion P ds → AllByRecursion P (later_than l ds)
-later_all P l [] all = tt
-later_all P l (d ∷ ds) all = by_first (l.0 == (listener_of d).0) (later_all P l ds all.1)
-  where
-    by_first : (b : Bool) → AllByRecursion P (later_than l ds) → AllByRecursion P (elim b as (λ _. List Deed) [ true ↦ ds | false ↦ later_than l ds ])
-    by_first true rest = all.1
-    by_first false rest = rest
-
 after_all : (P : Deed → Type 0) (after : Option ListenerNo) (ds : List Deed) → AllByRecursion P ds → AllByRecursion P (deeds_after after ds)
 after_all P None ds all = all
 after_all P (Some l) ds all = later_all P l ds all
@@ -235,7 +227,7 @@ all_run S p =
     (map_all (IsRun S p.event b) (deed b) (dealt_with S p.event) (run_deeds S p.event b (dealt_with S p.event) (dealt_names S p.event)))
 
 -- what runs at once goes on as the publication of its listener
-pub run_is : (S : Scenario) (p : Publication) (l : ListenerNo) (ds : List Deed) → later_deeds S p ≡ RunNow l ∷ ds
+run_is : (S : Scenario) (p : Publication) (l : ListenerNo) (ds : List Deed) → later_deeds S p ≡ RunNow l ∷ ds
     → ((x : Listener) × (slice_get S.listeners l.0 ≡ Some x)) × (dealt p l ≡ publication_of S l)
 run_is S p l ds is =
     let runs = (subst (AllByRecursion (IsRun S p.event (p.registers && p.registers))) is (all_run S p)).0 in
@@ -244,6 +236,49 @@ run_is S p l ds is =
     let first : EventNo = record { 0 = 0 } in
     let event : p.event ≡ event_of S l = (λ i. record { 0 = sym names i }) ∙ ap (λ o. option_map_or (λ (x : Listener). x.event) o first) (sym there) in
     ((x, there), (λ i. record { event = event i; after = Some l; registers = registers i }))
+
+-- ---- a listener that runs at once
+
+listens_is : (S : Scenario) (calls : Calls) (l : ListenerNo) (o : Option Listener) (x : Listener) → o ≡ Some x → (rest : List Deed) (st : State)
+    → and_then (listens S calls l o st) (deals S calls rest) ≡ and_then (and_then (Over None (say (Line.Listen l) st)) (callback S calls (listener_body o))) (deals S calls rest)
+listens_is S calls l (Some y) x is rest st = refl
+listens_is S calls l None x is rest st = cc
+
+-- ---- what is done with the next listener
+
+module _ (S : Scenario) (p : Publication) where
+  next_deed : (d : Deed) → Some d ≡ first_deed (later_deeds S p) → later_deeds S p ≡ d ∷ later_deeds S (dealt p (listener_of d))
+  next_deed d next =
+      let (rest, is) = first_some (later_deeds S p) d next in is ∙ ap (λ ds. d ∷ ds) (sym (later_is S p d rest is))
+
+  -- it calls only methods of a rank below this, as those after it do
+  pub below_next : (k : ℕ) (d : Deed) → Some d ≡ first_deed (later_deeds S p) → DeedsBelow S k (later_deeds S p) → DeedsBelow S k (d ∷ later_deeds S (dealt p (listener_of d)))
+  below_next k d next below = subst (DeedsBelow S k) (next_deed d next) below
+
+  module _ (l : ListenerNo) where
+    pub below_run : (k : ℕ) → Some (RunNow l) ≡ first_deed (later_deeds S p) → DeedsBelow S k (later_deeds S p) → DeedsBelow S k (RunNow l ∷ later_deeds S (publication_of S l))
+    below_run k next below =
+        let runs = (run_is S p l (later_deeds S (dealt p l)) (next_deed (RunNow l) next)).1 in
+        subst (λ q. DeedsBelow S k (RunNow l ∷ later_deeds S q)) runs (below_next k (RunNow l) next below)
+
+    module _ (calls : Calls) (st : State) where
+      -- it is registered, runs at once, or is skipped
+      pub deals_registered : Some (Register l) ≡ first_deed (later_deeds S p) → deals S calls (later_deeds S p) st ≡ registers_one S calls p l st
+      unfolding deals
+      deals_registered next = ap (λ ds. deals S calls ds st) (next_deed (Register l) next)
+
+      pub deals_run : Some (RunNow l) ≡ first_deed (later_deeds S p) → deals S calls (later_deeds S p) st ≡ runs_one S calls l st
+      unfolding deals
+      deals_run next =
+          let is = next_deed (RunNow l) next in
+          let (found, runs) = run_is S p l (later_deeds S (dealt p l)) is in
+          ap (λ ds. deals S calls ds st) is
+          ∙ ap (λ q. and_then (listens S calls l (slice_get S.listeners l.0) st) (deals S calls (later_deeds S q))) runs
+          ∙ listens_is S calls l (slice_get S.listeners l.0) found.0 found.1 (later_deeds S (publication_of S l)) st
+
+      pub deals_skipped : Some (Skip l) ≡ first_deed (later_deeds S p) → deals S calls (later_deeds S p) st ≡ deals S calls (later_deeds S (dealt p l)) (say (Line.Skip l) st)
+      unfolding deals
+      deals_skipped next = ap (λ ds. deals S calls ds st) (next_deed (Skip l) next)
 
 -- ---- whether listeners become registrations
 
@@ -277,12 +312,7 @@ pub none_after : (l : ListenerNo) (ds : List DeedData) → later_than l (drop (l
 none_after l [] = refl
 none_after l (d ∷ ds) = none_after l ds
 
--- ---- a listener that runs at once
-
-pub listens_is : (S : Scenario) (calls : Calls) (l : ListenerNo) (o : Option Listener) (x : Listener) → o ≡ Some x → (rest : List Deed) (st : State)
-    → and_then (listens S calls l o st) (deals S calls rest) ≡ and_then (and_then (Over None (say (Line.Listen l) st)) (callback S calls (listener_body o))) (deals S calls rest)
-listens_is S calls l (Some y) x is rest st = refl
-listens_is S calls l None x is rest st = cc
+-- ---- the deed at a place
 
 pub first_at : (ds : List DeedData) (i : ℕ) → option_map deed_of (slice_get ds i) ≡ first_deed (drop i (map deed_of ds))
 first_at [] zero = refl

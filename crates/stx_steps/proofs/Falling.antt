@@ -1,48 +1,21 @@
 -- What is done at once ends: a line is said, or less is left.
-use Rattle.std.proofs.Common.{◌≡◌, ◌∙◌, ◌+◌, ◌-◌, ◌==◌, ◌<◌, ◌≤◌, ◌∷◌, [], ℕ, Bool, true, false, List, length, Option, Some, None, refl, sym, ap, arith, eq-eqb, eqb-true, length-append}
+use Rattle.std.proofs.Common.{◌≡◌, ◌∙◌, ◌+◌, ◌-◌, ◌==◌, ◌<◌, ◌≤◌, [], ℕ, Bool, true, false, List, length, refl, sym, ap, arith, eq-eqb, eqb-true, length-append}
 use Rattle.std.proofs.lemmas.Bool.{false≢true}
-use Rattle.std.specs.Prelude.{drop, slice_get, unwrap_or}
-use Rattle.std.specs.Option.{option_map}
-use Rattle.stx_scenario.specs.declared.numbers.ClassNo.{ClassNo}
-use Rattle.stx_scenario.specs.declared.numbers.MethodNo.{MethodNo}
-use Rattle.stx_scenario.specs.declared.classes.TheConstants.{CANNOT_CREATE_TRANSACTION_EXCEPTION, CANNOT_GET_JDBC_CONNECTION_EXCEPTION}
 use Rattle.stx_scenario.specs.declared.scenario.Scenario.{Scenario}
-use Rattle.stx_base.specs.declared.call.Want.{Want}
-use Rattle.stx_base.specs.declared.history.Access.{Access}
-use Rattle.stx_base.specs.declared.history.Answer.{Answer}
-use Rattle.stx_base.specs.declared.history.Note.{Note}
-use Rattle.stx_base.specs.declared.history.PoolNote.{PoolNote}
-use Rattle.stx_base.specs.declared.history.StoreNote.{StoreNote}
-use Rattle.stx_base.specs.declared.line.Line.{Line}
-use Rattle.stx_base.specs.declared.manager.Action.{Action}
-use Rattle.stx_base.specs.declared.manager.Kind.{Kind}
-use Rattle.stx_base.specs.declared.manager.Round.{Round}
-use Rattle.stx_base.specs.Weight.{body_of, rank}
-use Rattle.stx_model.specs.Contexts.{Context, Registration, bare, ordered, ordered_labels, registered, with_global_mark, without_syncs}
-use Rattle.stx_model.specs.Meanings.{State, Stops, Meaning, state_of, and_then, finally, say, with_context, on_take, on_begin, on_access}
-use Rattle.stx_model.specs.Opening.{opening}
+use Rattle.stx_model.specs.Meanings.{state_of}
 use Rattle.stx_model.specs.Reads.{StartsWith}
-use Rattle.stx_model.specs.Rounds.{Calls, callback, swallows}
-use Rattle.stx_model.specs.Scopes.{acts, begins, ends, later_or, leaves, say_each}
-use Rattle.stx_model.specs.Below.{listener_body}
-use Rattle.stx_model.specs.Script.{calls_of, deals, tops}
-use Rattle.stx_model.specs.Statements.{RowAccess, caught, concludes, unless_busy}
-use Rattle.stx_model.proofs.Steady.{IsSteady, after_change, either_steady, say_steady, over_steady, breaks_steady, finally_steady, and_then_steady, ask_steady, on_take_steady, unasked}
-use Rattle.stx_model.proofs.SteadyPieces.{AreSteady, in_fresh, throws_steady, concludes_steady, caught_steady, access_steady, needed_steady, added_steady, leaves_steady, acts_steady, ends_steady, begins_steady, opens_steady, body_steady, calls_below_steady, done_steady, tops_steady, callback_steady, deals_steady, stopping_steady, swallowing_steady, swallows_change, say_each_change, within_steady}
-use Rattle.stx_context.specs.Carrying.{Carried, context_of}
-use Rattle.stx_frames.specs.declared.frame.Frame.{Frame}
-use Rattle.stx_sync.specs.declared.registered.Registered.{Registered}
-use Rattle.stx_machine.specs.declared.interception.Course.{Course}
-use Rattle.stx_machine.specs.declared.interception.Interception.{Interception}
-use Rattle.stx_machine.specs.declared.interception.Phase.{Phase}
 use Rattle.stx_machine.specs.declared.machine.Machine.{Machine}
-use Rattle.stx_machine.specs.declared.stage.Place.{Place}
-use Rattle.stx_machine.specs.declared.stage.Stage.{Stage}
-use Rattle.stx_machine.specs.declared.stage.Then.{Then}
-use Rattle.stx_machine.specs.declared.tokens.Tokens.{Tokens}
-use Rattle.stx_machine.specs.Machine.{Call, Goes, Moves, Says, Waits, Shrinks, accesses, attribute_of, begun, after_round, call_after, caller_rank, calls_at, completes, connects, course_after, does, falls, frame_after, has_failed, in_round, inside, last_told, later_calls, later_deeds, left, of_call, of_top, opened, phase_after, piece, pointed, publication_of, rest_after, rest_of, unwound, resumes_call, round_after, rounds_call, row_access, run, scope_of, stack, state_at, statements, stops, tells, tells_resumed, thrown_of, told_after, untold, want_at, want_of, whole_round}
-use Rattle.stx_machine.specs.Sound.{CallCompletes, CallOpens, CallPoints, IsSound, Standing, StageFits, standing_of}
+use Rattle.stx_machine.specs.Machine.{Goes, Moves, Says, Waits, Shrinks, falls, left, run}
+use Rattle.stx_machine.specs.Sound.{IsSound, held}
 use Rattle.stx_machine.proofs.Growth.{run_starts}
+
+-- ---- how far it came
+
+-- what is left of the script stayed, and no line was taken back while something is done at once
+pub record FallsOn (S : Scenario) (n : ℕ) (before after : Machine) : Type 0 where
+  pub goes : Goes S n before after
+  pub sound : IsSound S after (held after.stage)
+  pub longer : falls after.stage ≡ true → length before.lines.items ≤ length after.lines.items
 
 -- ---- what falls
 

@@ -1,9 +1,10 @@
 -- What the innermost piece does with the note that it was waiting for.
-use Rattle.std.proofs.Common.{◌≡◌, ℕ, ◌++◌, ◌∷◌, [], Bool, true, false, List, Option, Some, None, refl, sym, ap, ◌∙◌}
+use Rattle.std.proofs.Common.{◌≡◌, ℕ, ◌++◌, ◌∷◌, [], Bool, true, false, List, Option, Some, None, refl, sym, ap, ◌∙◌, subst}
 use Rattle.std.specs.Prelude.{IsSome}
-use Rattle.std.specs.Option.{option_map}
 use Rattle.std.proofs.lemmas.Bool.{false≢true}
+use Rattle.stx_scenario.specs.declared.classes.TheConstants.{CANNOT_GET_JDBC_CONNECTION_EXCEPTION}
 use Rattle.stx_scenario.specs.declared.numbers.ClassNo.{ClassNo}
+use Rattle.stx_scenario.specs.declared.numbers.MethodNo.{MethodNo}
 use Rattle.stx_scenario.specs.declared.scenario.Scenario.{Scenario}
 use Rattle.stx_base.specs.declared.call.Want.{Want}
 use Rattle.stx_base.specs.declared.history.Access.{Access}
@@ -13,24 +14,27 @@ use Rattle.stx_base.specs.declared.history.PoolNote.{PoolNote}
 use Rattle.stx_base.specs.declared.history.StoreNote.{StoreNote}
 use Rattle.stx_base.specs.declared.line.Line.{Line}
 use Rattle.stx_base.specs.declared.manager.Action.{Action}
-use Rattle.stx_base.specs.Notes.{pool_answers, pool_line, store_answers, store_line}
+use Rattle.stx_base.specs.Notes.{is_answer, pool_answers, pool_line, store_answers, store_line}
 use Rattle.stx_model.specs.Contexts.{Context, with_global_mark}
-use Rattle.stx_model.specs.Meanings.{State, Meaning, ask, on_access, with_context, with_local}
+use Rattle.stx_model.specs.Meanings.{State, Meaning, ask, hear, on_access, on_begin, on_take, unread, with_context, with_local}
 use Rattle.stx_model.specs.Rounds.{Calls}
 use Rattle.stx_model.specs.Scopes.{Scope, acts, begins, leaves, resumed}
-use Rattle.stx_model.specs.Statements.{concludes, unless_busy}
+use Rattle.stx_model.specs.Statements.{concludes, throws, unless_busy}
 use Rattle.stx_model.proofs.Steady.{asked}
-use Rattle.stx_context.specs.Carrying.{Carried, context_of}
+use Rattle.stx_context.specs.Carrying.{context_of}
 use Rattle.stx_frames.specs.declared.frame.Frame.{Frame}
+use Rattle.stx_machine.specs.declared.interception.Interception.{Interception}
 use Rattle.stx_machine.specs.declared.machine.Machine.{Machine}
 use Rattle.stx_machine.specs.declared.stage.Bound.{Bound}
 use Rattle.stx_machine.specs.declared.stage.Place.{Place}
 use Rattle.stx_machine.specs.declared.stage.Stage.{Stage}
 use Rattle.stx_machine.specs.declared.stage.Then.{Then}
-use Rattle.stx_machine.specs.Machine.{Call, accesses, context_at, later_calls, piece, unwound, run, stack, row_answered, want_at, row_access, does, completes, inside, scope_of, rest_of, thrown_of, of_top, pointed}
+use Rattle.stx_machine.specs.declared.tokens.Tokens.{Tokens}
+use Rattle.stx_machine.specs.Machine.{Call, Comes, Innermost, accesses, begun, completes, context_at, does, inside, of_call, of_top, piece, pointed, rest_of, row_access, row_answered, run, scope_of, stack, state_before, state_with, thrown_of, want_of, onward}
+use Rattle.stx_machine.specs.Sound.{CallCompletes, GivesLast, IsSound, Standing, StageFits, brought, held_out, is_resumption, standing_of}
+use Rattle.stx_machine.proofs.Stacks.{each_innermost, mapped_some}
 use Rattle.stx_machine.proofs.Standings.{resumption_is}
-use Rattle.stx_steps.specs.Steps.{before_line, finds_none, starts, starts_pointed}
-use Rattle.stx_machine.specs.Sound.{CallCompletes, CallOpens, CallPoints, GivesLast, Standing, is_resumption}
+use Rattle.stx_steps.specs.Steps.{HearsPool, HearsStore, before_line, finds_none, starts, starts_on, starts_pointed}
 
 module _ (lines : List Line) (local : Option Bool) (pool : List PoolNote) (store : List StoreNote) where
   at : Context → State
@@ -50,143 +54,177 @@ module _ (lines : List Line) (local : Option Bool) (pool : List PoolNote) (store
       let only = resumption_is rest is in
       ap (λ r. acts S calls scope r x (at one)) only ∙ either_resumes scope scope.older x one other older ∙ ap (λ r. acts S calls scope r x (at other)) (sym only)
 
-some_mapped : (o : Option Carried) → IsSome o → IsSome (option_map context_of o)
-some_mapped (Some carried) is = is
-some_mapped None is = is
+  last_completes : (S : Scenario) (fs : List Call) (one other : Context) → GivesLast fs → of_top S fs Stage.Completing (at one) ≡ of_top S fs Stage.Completing (at other)
+  last_completes S fs one other =
+      each_innermost _ (λ fs. of_top S fs Stage.Completing (at one) ≡ of_top S fs Stage.Completing (at other))
+      (λ m place catch i fs last. last_resumes S (inside S m) (scope_of m i) (rest_of i.phase) (thrown_of i.phase) one other last.0 (mapped_some i.scope.suspended last.1)) fs
 
--- ---- each note
+-- ---- the innermost call asks
 
-module _ (S : Scenario) (lines : List Line) (context : Context) (local : Option Bool) (pool : List PoolNote) (store : List StoreNote) where
-  abbrev before : List PoolNote → List StoreNote → State
-  before p s = record { lines = lines; context = context; local = local; pool = p; store = s }
+module _ (S : Scenario) (w : Want) (note : Note) (st : State) (here : unread w st ≡ Some note) (suits : is_answer w note ≡ true) (stage : Stage) where
+  -- the call asks for the note, and goes on with it
+  goes_on_with : (next : MethodNo → Interception → Note → Meaning) (later : List Call → Meaning)
+      → ((m : MethodNo) (i : Interception) → of_call S m i stage st ≡ ask w (next m i) st)
+      → ((m : MethodNo) (place : ℕ) (catch : Option ClassNo) (i : Interception) (fs : List Call)
+      → next m i note (hear note st) ≡ later (Frame.Body m place catch (Some i) ∷ fs) (hear note st))
+      → (Asks : MethodNo → ℕ → Option ClassNo → Interception → List Call → Type 0) (fs : List Call) → Innermost Asks fs → of_top S fs stage st ≡ later fs (hear note st)
+  goes_on_with next later asks same Asks =
+      each_innermost Asks (λ fs. of_top S fs stage st ≡ later fs (hear note st)) (λ m place catch i fs is. asks m i ∙ asked w (next m i) st note true here suits ∙ same m place catch i fs)
 
-  abbrev said : Line → State
-  said line = record { lines = lines ++ line ∷ []; context = context; local = local; pool = pool; store = store }
-
-  pub heard_access : (place : Place) (a : Access) (d : Then) (u : ℕ) (b : Access) (r : Answer) → store_answers (want_at place a) (StoreNote.Access u b r) ≡ true
-      → accesses place a d (before pool (StoreNote.Access u b r ∷ store)) ≡ row_answered place d r (said (Line.Row u b r))
-  heard_access (Place.Transaction t) a d u b r is =
-      asked (Want.Access t a) (on_access (unless_busy (row_access (Place.Transaction t)) (does (row_access (Place.Transaction t)) d))) (before pool (StoreNote.Access u b r ∷ store))
-      (Note.Store (StoreNote.Access u b r)) true refl is
-  heard_access (Place.Connection c) a d u b r is = absurd (false≢true is)
-
-  pub heard_auto : (place : Place) (a : Access) (d : Then) (b : Access) (r : Answer) → store_answers (want_at place a) (StoreNote.Auto b r) ≡ true
-      → accesses place a d (before pool (StoreNote.Auto b r ∷ store)) ≡ row_answered place d r (said (Line.Auto b r))
-  heard_auto (Place.Connection c) a d b r is =
-      asked (Want.Auto a) (on_access (unless_busy (row_access (Place.Connection c)) (does (row_access (Place.Connection c)) d))) (before pool (StoreNote.Auto b r ∷ store))
-      (Note.Store (StoreNote.Auto b r)) true refl is
-  heard_auto (Place.Transaction t) a d b r is = absurd (false≢true is)
-
-  pub heard_given : (c d : ℕ) (x : Option ClassNo) → pool_answers (Want.Give c) (PoolNote.Given d) ≡ true
-      → ask (Want.Give c) (λ _. concludes x) (before (PoolNote.Given d ∷ pool) store) ≡ concludes x (said (Line.Give d))
-  heard_given c d x is = asked (Want.Give c) (λ _. concludes x) (before (PoolNote.Given d ∷ pool) store) (Note.Pool (PoolNote.Given d)) true refl is
-
-  pub heard_taken : (fs : List Call) (c : ℕ) → CallOpens S fs
-      → of_top S fs Stage.Taking (before (PoolNote.Taken c ∷ pool) store) ≡ of_top S fs (Stage.Beginning c) (said (Line.Take (Some c)))
-  unfolding ask
-  heard_taken (Frame.Body m place catch (Some i) ∷ fs) c opens = refl
-  heard_taken (Frame.Body m place catch None ∷ fs) c opens = absurd opens
-  heard_taken (Frame.Round round todo at place x ∷ fs) c opens = absurd opens
-  heard_taken (Frame.Now listener place ∷ fs) c opens = absurd opens
-  heard_taken [] c opens = absurd opens
-
-  pub heard_empty : (fs : List Call) → CallOpens S fs
-      → of_top S fs Stage.Taking (before (PoolNote.Empty ∷ pool) store) ≡ finds_none S fs (said (Line.Take None))
-  unfolding ask
-  heard_empty (Frame.Body m place catch (Some i) ∷ fs) opens = refl
-  heard_empty (Frame.Body m place catch None ∷ fs) opens = absurd opens
-  heard_empty (Frame.Round round todo at place x ∷ fs) opens = absurd opens
-  heard_empty (Frame.Now listener place ∷ fs) opens = absurd opens
-  heard_empty [] opens = absurd opens
-
-  pub heard_begin : (fs : List Call) (c t : ℕ) → CallOpens S fs
-      → of_top S fs (Stage.Beginning c) (before pool (StoreNote.Begin t ∷ store)) ≡ starts S fs c t (said (Line.Begin t))
-  unfolding begins ask
-  heard_begin (Frame.Body m place catch (Some i) ∷ fs) c t opens = refl
-  heard_begin (Frame.Body m place catch None ∷ fs) c t opens = absurd opens
-  heard_begin (Frame.Round round todo at place x ∷ fs) c t opens = absurd opens
-  heard_begin (Frame.Now listener place ∷ fs) c t opens = absurd opens
-  heard_begin [] c t opens = absurd opens
-
-  pub heard_commit : (fs : List Call) (standing : Standing) (t u k : ℕ) → CallCompletes S standing fs → store_answers (Want.Commit t) (StoreNote.Commit u k) ≡ true
-      → of_top S fs (Stage.Committing t) (before pool (StoreNote.Commit u k ∷ store)) ≡ of_top S fs Stage.Completing (said (Line.Commit u k))
-  heard_commit (Frame.Body m place catch (Some i) ∷ fs) standing t u k completing is =
-      asked (Want.Commit t) (λ _. completes S m i (rest_of i.phase)) (before pool (StoreNote.Commit u k ∷ store)) (Note.Store (StoreNote.Commit u k)) true refl is
-  heard_commit (Frame.Body m place catch None ∷ fs) standing t u k completing is = absurd completing
-  heard_commit (Frame.Round round todo at place x ∷ fs) standing t u k completing is = absurd completing
-  heard_commit (Frame.Now listener place ∷ fs) standing t u k completing is = absurd completing
-  heard_commit [] standing t u k completing is = absurd completing
-
-  pub heard_rollback : (fs : List Call) (standing : Standing) (t u : ℕ) → CallCompletes S standing fs → store_answers (Want.Rollback t) (StoreNote.Rollback u) ≡ true
-      → of_top S fs (Stage.RollingBack t) (before pool (StoreNote.Rollback u ∷ store)) ≡ of_top S fs Stage.Completing (said (Line.Rollback u))
-  heard_rollback (Frame.Body m place catch (Some i) ∷ fs) standing t u completing is =
-      asked (Want.Rollback t) (λ _. completes S m i (rest_of i.phase)) (before pool (StoreNote.Rollback u ∷ store)) (Note.Store (StoreNote.Rollback u)) true refl is
-  heard_rollback (Frame.Body m place catch None ∷ fs) standing t u completing is = absurd completing
-  heard_rollback (Frame.Round round todo at place x ∷ fs) standing t u completing is = absurd completing
-  heard_rollback (Frame.Now listener place ∷ fs) standing t u completing is = absurd completing
-  heard_rollback [] standing t u completing is = absurd completing
-
-  pub heard_release : (fs : List Call) (standing : Standing) (t u : ℕ) → CallCompletes S standing fs → store_answers (Want.Release t) (StoreNote.Release u) ≡ true
-      → of_top S fs (Stage.Releasing t) (before pool (StoreNote.Release u ∷ store)) ≡ of_top S fs Stage.Completing (said (Line.Release u))
-  heard_release (Frame.Body m place catch (Some i) ∷ fs) standing t u completing is =
-      asked (Want.Release t) (λ _. completes S m i (rest_of i.phase)) (before pool (StoreNote.Release u ∷ store)) (Note.Store (StoreNote.Release u)) true refl is
-  heard_release (Frame.Body m place catch None ∷ fs) standing t u completing is = absurd completing
-  heard_release (Frame.Round round todo at place x ∷ fs) standing t u completing is = absurd completing
-  heard_release (Frame.Now listener place ∷ fs) standing t u completing is = absurd completing
-  heard_release [] standing t u completing is = absurd completing
-
-  pub heard_return : (fs : List Call) (standing : Standing) (t u : ℕ) → CallCompletes S standing fs → store_answers (Want.BackTo t) (StoreNote.BackTo u) ≡ true
-      → of_top S fs (Stage.GoingBack t) (before pool (StoreNote.BackTo u ∷ store)) ≡ of_top S fs Stage.Completing (record (said (Line.BackTo u)) { context = with_global_mark false context })
-  heard_return (Frame.Body m place catch (Some i) ∷ fs) standing t u completing is =
-      asked (Want.BackTo t) (λ _ back. completes S m i (rest_of i.phase) (with_context (with_global_mark false back.context) back)) (before pool (StoreNote.BackTo u ∷ store)) (Note.Store (StoreNote.BackTo u)) true refl is
-  heard_return (Frame.Body m place catch None ∷ fs) standing t u completing is = absurd completing
-  heard_return (Frame.Round round todo at place x ∷ fs) standing t u completing is = absurd completing
-  heard_return (Frame.Now listener place ∷ fs) standing t u completing is = absurd completing
-  heard_return [] standing t u completing is = absurd completing
-
-  pub heard_point : (fs : List Call) (standing : Standing) (t u : ℕ) → CallPoints S standing fs → store_answers (Want.Point t) (StoreNote.Point u) ≡ true
-      → of_top S fs (Stage.Pointing t) (before pool (StoreNote.Point u ∷ store)) ≡ starts_pointed S fs (said (Line.Savepoint u))
-  heard_point (Frame.Body m place catch (Some i) ∷ fs) standing t u points is =
-      asked (Want.Point t) (λ _. pointed S m) (before pool (StoreNote.Point u ∷ store)) (Note.Store (StoreNote.Point u)) true refl is
-  heard_point (Frame.Body m place catch None ∷ fs) standing t u points is = absurd points
-  heard_point (Frame.Round round todo at place x ∷ fs) standing t u points is = absurd points
-  heard_point (Frame.Now listener place ∷ fs) standing t u points is = absurd points
-  heard_point [] standing t u points is = absurd points
-
-  -- the connection was given back: whatever is carried until what was suspended is resumed
-  pub heard_back : (fs : List Call) (bound : Bound) (d : ℕ) (other : Context) → GivesLast fs → pool_answers (Want.Give bound.connection) (PoolNote.Given d) ≡ true
-      → of_top S fs (Stage.GivingBack bound) (before (PoolNote.Given d ∷ pool) store) ≡ of_top S fs Stage.Completing (record (said (Line.Give d)) { context = other })
-  unfolding at
-  heard_back (Frame.Body m place catch (Some i) ∷ fs) bound d other last is =
-      asked (Want.Give bound.connection) (λ _. completes S m i (rest_of i.phase)) (before (PoolNote.Given d ∷ pool) store) (Note.Pool (PoolNote.Given d)) true refl is
-      ∙ last_resumes (lines ++ Line.Give d ∷ []) local pool store S (inside S m) (scope_of m i) (rest_of i.phase) (thrown_of i.phase) context other last.0 (some_mapped i.scope.suspended last.1)
-  heard_back (Frame.Body m place catch None ∷ fs) bound d other last is = absurd last
-  heard_back (Frame.Round round todo at place x ∷ fs) bound d other last is = absurd last
-  heard_back (Frame.Now listener place ∷ fs) bound d other last is = absurd last
-  heard_back [] bound d other last is = absurd last
+  -- with its completion
+  completes_on : ((m : MethodNo) (i : Interception) → of_call S m i stage st ≡ ask w (λ _. completes S m i (rest_of i.phase)) st)
+      → (standing : Standing) (fs : List Call) → CallCompletes S standing fs → of_top S fs stage st ≡ of_top S fs Stage.Completing (hear note st)
+  completes_on asks standing fs completing =
+      goes_on_with (λ m i _. completes S m i (rest_of i.phase)) (λ fs. of_top S fs Stage.Completing) asks (λ m place catch i fs. refl) _ fs completing
 
 -- ---- a note whose line was said
 
-module _ (S : Scenario) (n : ℕ) (m : Machine) (lines : List Line) (stage : Stage) (pool : List PoolNote) (store : List StoreNote) (meaning : Meaning) (is : m.stage ≡ stage) (context : Context) where
-  abbrev begins_at : List PoolNote → List StoreNote → State
-  begins_at p s = record { lines = lines; context = context_at stage m.context; local = m.local; pool = p; store = s }
+-- these lines were said
+abbrev pub with_lines : List Line → State → State
+with_lines lines st = record { lines = lines; context = st.context; local = st.local; pool = st.pool; store = st.store }
 
-  abbrev goes_to : List Line → State
-  goes_to said = record { lines = said; context = context; local = m.local; pool = pool; store = store }
+-- before the note was read, and its line said
+abbrev pub unread_at : Machine → Stage → List Line → List PoolNote → List StoreNote → State
+unread_at m stage lines pool store = with_lines lines (state_with m (context_at stage m.context) pool store)
 
-  -- where the piece, with this note to come, means this after the note's line, it is what is left after it
-  pub hears_pool : (note heard : PoolNote) → note ≡ heard → m.lines.items ≡ lines ++ pool_line note ∷ []
-      → piece S (stack m.frames) stage (begins_at (heard ∷ pool) store) ≡ meaning (goes_to (lines ++ pool_line heard ∷ []))
-      → run S n (before_line m lines) (note ∷ pool) store ≡ later_calls S n m.top (unwound S (stack m.frames) (meaning (goes_to m.lines.items)))
-  hears_pool note heard same line goes =
-      (λ k. run S n (record (before_line m lines) { stage = is k }) (same k ∷ pool) store)
-      ∙ ap (λ r. later_calls S n m.top (unwound S (stack m.frames) r)) goes
-      ∙ ap (λ said. later_calls S n m.top (unwound S (stack m.frames) (meaning (goes_to said)))) (ap (λ p. lines ++ pool_line p ∷ []) (sym same) ∙ sym line)
+abbrev pub read_at : Machine → List Line → Line → List PoolNote → List StoreNote → State
+read_at m lines line pool store = with_lines (lines ++ line ∷ []) (state_before m pool store)
 
-  pub hears_store : (note heard : StoreNote) → note ≡ heard → m.lines.items ≡ lines ++ store_line note ∷ []
-      → piece S (stack m.frames) stage (begins_at pool (heard ∷ store)) ≡ meaning (goes_to (lines ++ store_line heard ∷ []))
-      → run S n (before_line m lines) pool (note ∷ store) ≡ later_calls S n m.top (unwound S (stack m.frames) (meaning (goes_to m.lines.items)))
-  hears_store note heard same line goes =
-      (λ k. run S n (record (before_line m lines) { stage = is k }) pool (same k ∷ store))
-      ∙ ap (λ r. later_calls S n m.top (unwound S (stack m.frames) r)) goes
-      ∙ ap (λ said. later_calls S n m.top (unwound S (stack m.frames) (meaning (goes_to said)))) (ap (λ p. lines ++ store_line p ∷ []) (sym same) ∙ sym line)
+-- what is left at this stage, with this note of the pool to come, is this once it is read; likewise with a note of the store
+pub record PoolHeard (S : Scenario) (m : Machine) (stage : Stage) (note : PoolNote) (meaning : Meaning) : Type 0 where
+  pub goes : StageFits S stage m.context (stack m.frames) → pool_answers (want_of stage) note ≡ true → (lines : List Line) (pool : List PoolNote) (store : List StoreNote)
+      → piece S (stack m.frames) stage (unread_at m stage lines (note ∷ pool) store) ≡ meaning (read_at m lines (pool_line note) pool store)
+
+pub record StoreHeard (S : Scenario) (m : Machine) (stage : Stage) (note : StoreNote) (meaning : Meaning) : Type 0 where
+  pub goes : StageFits S stage m.context (stack m.frames) → store_answers (want_of stage) note ≡ true → (lines : List Line) (pool : List PoolNote) (store : List StoreNote)
+      → piece S (stack m.frames) stage (unread_at m stage lines pool (note ∷ store)) ≡ meaning (read_at m lines (store_line note) pool store)
+
+module _ {S : Scenario} {m : Machine} {tokens : Tokens} {stage : Stage} (after : Machine) (sound : IsSound S m tokens) (at : m.stage ≡ stage) where
+  fits : StageFits S stage m.context (stack m.frames)
+  fits = subst (λ s. StageFits S s m.context (stack m.frames)) at sound.stage
+
+  pub hears_pool : {note heard : PoolNote} {meaning : Meaning} → note ≡ heard → pool_answers (want_of m.stage) note ≡ true
+      → PoolHeard S m stage heard meaning → Comes S m meaning after → HearsPool S note m after
+  hears_pool {note} {heard} {meaning} same answers hears comes n lines pool store line =
+      (λ k. run S n (record (before_line m lines) { stage = at k }) (same k ∷ pool) store)
+      ∙ ap (onward S n m) (hears.goes fits ((λ k. pool_answers (want_of (sym at k)) (sym same k)) ∙ answers) lines pool store)
+      ∙ ap (λ said. onward S n m (meaning (with_lines said (state_before m pool store)))) (ap (λ p. lines ++ pool_line p ∷ []) (sym same) ∙ sym line)
+      ∙ comes n pool store
+
+  pub hears_store : {note heard : StoreNote} {meaning : Meaning} → note ≡ heard → store_answers (want_of m.stage) note ≡ true
+      → StoreHeard S m stage heard meaning → Comes S m meaning after → HearsStore S note m after
+  hears_store {note} {heard} {meaning} same answers hears comes n lines pool store line =
+      (λ k. run S n (record (before_line m lines) { stage = at k }) pool (same k ∷ store))
+      ∙ ap (onward S n m) (hears.goes fits ((λ k. store_answers (want_of (sym at k)) (sym same k)) ∙ answers) lines pool store)
+      ∙ ap (λ said. onward S n m (meaning (with_lines said (state_before m pool store)))) (ap (λ p. lines ++ store_line p ∷ []) (sym same) ∙ sym line)
+      ∙ comes n pool store
+
+-- the machine was sound at this stage, with what this note brought
+pub sound_at : {S : Scenario} {m : Machine} {stage : Stage} {note heard : Note} → m.stage ≡ stage → note ≡ heard
+    → IsSound S m (brought note (held_out m.stage)) → IsSound S (record m { stage = stage }) (brought heard (held_out stage))
+sound_at {S} {m} {stage} {note} {heard} at same sound =
+    subst (λ p. IsSound S (record m { stage = stage }) (brought p (held_out stage))) same
+    (subst (λ s. IsSound S (record m { stage = s }) (brought note (held_out s))) at sound)
+
+-- ---- each note
+
+module _ {S : Scenario} {m : Machine} where
+  pub heard_access : (place : Place) (a : Access) (d : Then) (u : ℕ) (b : Access) (r : Answer) → StoreHeard S m (Stage.Accessing place a d) (StoreNote.Access u b r) (row_answered place d r)
+  heard_access (Place.Transaction t) a d u b r = record {
+    goes = λ fits suits lines pool store.
+        asked (Want.Access t a) (on_access (unless_busy (row_access (Place.Transaction t)) (does (row_access (Place.Transaction t)) d)))
+        (unread_at m (Stage.Accessing (Place.Transaction t) a d) lines pool (StoreNote.Access u b r ∷ store)) (Note.Store (StoreNote.Access u b r)) true refl suits;
+  }
+  heard_access (Place.Connection c) a d u b r = record { goes = λ fits suits lines pool store. absurd (false≢true suits) }
+
+  pub heard_auto : (place : Place) (a : Access) (d : Then) (b : Access) (r : Answer) → StoreHeard S m (Stage.Accessing place a d) (StoreNote.Auto b r) (row_answered place d r)
+  heard_auto (Place.Connection c) a d b r = record {
+    goes = λ fits suits lines pool store.
+        asked (Want.Auto a) (on_access (unless_busy (row_access (Place.Connection c)) (does (row_access (Place.Connection c)) d)))
+        (unread_at m (Stage.Accessing (Place.Connection c) a d) lines pool (StoreNote.Auto b r ∷ store)) (Note.Store (StoreNote.Auto b r)) true refl suits;
+  }
+  heard_auto (Place.Transaction t) a d b r = record { goes = λ fits suits lines pool store. absurd (false≢true suits) }
+
+  pub heard_begin : (c t : ℕ) → StoreHeard S m (Stage.Beginning c) (StoreNote.Begin t) (starts S (stack m.frames) c t)
+  unfolding begins
+  heard_begin c t = record {
+    goes = λ fits suits lines pool store.
+        goes_on_with S Want.Begin (Note.Store (StoreNote.Begin t)) (unread_at m (Stage.Beginning c) lines pool (StoreNote.Begin t ∷ store)) refl refl (Stage.Beginning c)
+        (λ n i. on_begin (starts_on S n i c)) (λ fs. starts S fs c t) (λ n i. refl) (λ n place catch i fs. refl) _ (stack m.frames) fits.1;
+  }
+
+  pub heard_commit : (t u k : ℕ) → StoreHeard S m (Stage.Committing t) (StoreNote.Commit u k) (of_top S (stack m.frames) Stage.Completing)
+  heard_commit t u k = record {
+    goes = λ fits suits lines pool store.
+        completes_on S (Want.Commit t) (Note.Store (StoreNote.Commit u k)) (unread_at m (Stage.Committing t) lines pool (StoreNote.Commit u k ∷ store)) refl suits
+        (Stage.Committing t) (λ n i. refl) (standing_of m.context) (stack m.frames) fits;
+  }
+
+  pub heard_rollback : (t u : ℕ) → StoreHeard S m (Stage.RollingBack t) (StoreNote.Rollback u) (of_top S (stack m.frames) Stage.Completing)
+  heard_rollback t u = record {
+    goes = λ fits suits lines pool store.
+        completes_on S (Want.Rollback t) (Note.Store (StoreNote.Rollback u)) (unread_at m (Stage.RollingBack t) lines pool (StoreNote.Rollback u ∷ store)) refl suits
+        (Stage.RollingBack t) (λ n i. refl) (standing_of m.context) (stack m.frames) fits;
+  }
+
+  pub heard_release : (t u : ℕ) → StoreHeard S m (Stage.Releasing t) (StoreNote.Release u) (of_top S (stack m.frames) Stage.Completing)
+  heard_release t u = record {
+    goes = λ fits suits lines pool store.
+        completes_on S (Want.Release t) (Note.Store (StoreNote.Release u)) (unread_at m (Stage.Releasing t) lines pool (StoreNote.Release u ∷ store)) refl suits
+        (Stage.Releasing t) (λ n i. refl) (standing_of m.context) (stack m.frames) fits;
+  }
+
+  -- the mark is taken back
+  pub heard_return : (t u : ℕ) → StoreHeard S m (Stage.GoingBack t) (StoreNote.BackTo u) (λ st. of_top S (stack m.frames) Stage.Completing (with_context (with_global_mark false st.context) st))
+  heard_return t u = record {
+    goes = λ fits suits lines pool store.
+        goes_on_with S (Want.BackTo t) (Note.Store (StoreNote.BackTo u)) (unread_at m (Stage.GoingBack t) lines pool (StoreNote.BackTo u ∷ store)) refl suits (Stage.GoingBack t)
+        (λ n i _ back. completes S n i (rest_of i.phase) (with_context (with_global_mark false back.context) back))
+        (λ fs st. of_top S fs Stage.Completing (with_context (with_global_mark false st.context) st)) (λ n i. refl) (λ n place catch i fs. refl) _
+        (stack m.frames) fits;
+  }
+
+  pub heard_point : (t u : ℕ) → StoreHeard S m (Stage.Pointing t) (StoreNote.Point u) (starts_pointed S (stack m.frames))
+  heard_point t u = record {
+    goes = λ fits suits lines pool store.
+        goes_on_with S (Want.Point t) (Note.Store (StoreNote.Point u)) (unread_at m (Stage.Pointing t) lines pool (StoreNote.Point u ∷ store)) refl suits (Stage.Pointing t)
+        (λ n i _. pointed S n) (starts_pointed S) (λ n i. refl) (λ n place catch i fs. refl) _ (stack m.frames) fits;
+  }
+
+  pub heard_taken : (c : ℕ) → PoolHeard S m Stage.Taking (PoolNote.Taken c) (of_top S (stack m.frames) (Stage.Beginning c))
+  heard_taken c = record {
+    goes = λ fits suits lines pool store.
+        goes_on_with S Want.Take (Note.Pool (PoolNote.Taken c)) (unread_at m Stage.Taking lines (PoolNote.Taken c ∷ pool) store) refl refl Stage.Taking
+        (λ n i. on_take (begun S n i)) (λ fs. of_top S fs (Stage.Beginning c)) (λ n i. refl) (λ n place catch i fs. refl) _ (stack m.frames) fits.1;
+  }
+
+  pub heard_empty : PoolHeard S m Stage.Taking PoolNote.Empty (finds_none S (stack m.frames))
+  heard_empty = record {
+    goes = λ fits suits lines pool store.
+        goes_on_with S Want.Take (Note.Pool PoolNote.Empty) (unread_at m Stage.Taking lines (PoolNote.Empty ∷ pool) store) refl refl Stage.Taking (λ n i. on_take (begun S n i)) (finds_none S)
+        (λ n i. refl) (λ n place catch i fs. refl) _ (stack m.frames) fits.1;
+  }
+
+  pub heard_connection : (a : Access) (d : Then) (c : ℕ) → PoolHeard S m (Stage.Connecting a d) (PoolNote.Taken c) (accesses (Place.Connection c) a d)
+  unfolding ask
+  heard_connection a d c = record { goes = λ fits suits lines pool store. refl }
+
+  pub heard_no_connection : (a : Access) (d : Then) → PoolHeard S m (Stage.Connecting a d) PoolNote.Empty (throws CANNOT_GET_JDBC_CONNECTION_EXCEPTION)
+  unfolding ask
+  heard_no_connection a d = record { goes = λ fits suits lines pool store. refl }
+
+  pub heard_given : (c d : ℕ) (x : Option ClassNo) → PoolHeard S m (Stage.Returning c x) (PoolNote.Given d) (concludes x)
+  heard_given c d x = record {
+    goes = λ fits suits lines pool store.
+        asked (Want.Give c) (λ _. concludes x) (unread_at m (Stage.Returning c x) lines (PoolNote.Given d ∷ pool) store) (Note.Pool (PoolNote.Given d)) true refl suits;
+  }
+
+  -- the connection was given back: whatever is carried until what was suspended is resumed
+  pub heard_back : (bound : Bound) (d : ℕ) → PoolHeard S m (Stage.GivingBack bound) (PoolNote.Given d) (of_top S (stack m.frames) Stage.Completing)
+  unfolding at
+  heard_back bound d = record {
+    goes = λ fits suits lines pool store.
+        completes_on S (Want.Give bound.connection) (Note.Pool (PoolNote.Given d)) (unread_at m (Stage.GivingBack bound) lines (PoolNote.Given d ∷ pool) store) refl suits
+        (Stage.GivingBack bound) (λ n i. refl) (standing_of m.context) (stack m.frames) fits.0
+        ∙ last_completes (lines ++ Line.Give d ∷ []) m.local pool store S (stack m.frames) (context_at (Stage.GivingBack bound) m.context) (context_of m.context) fits.1;
+  }

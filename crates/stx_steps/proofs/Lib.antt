@@ -1,3 +1,4 @@
+pub mod Coming
 pub mod Dealings
 pub mod RoundLaws
 pub mod BodyLaws

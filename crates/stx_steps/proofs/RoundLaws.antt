@@ -4,6 +4,7 @@ use Rattle.std.specs.Prelude.{◌&&◌, not, slice_get}
 use Rattle.std.specs.Option.{is_some, option_map_or, option_or}
 use Rattle.std.proofs.lemmas.Option.{slice_get_within}
 use Rattle.std.proofs.lemmas.Bool.{false≢true, and_parts, ltb-true}
+use Rattle.stx_scenario.specs.Rooms.{Room}
 use Rattle.stx_scenario.specs.declared.numbers.ClassNo.{ClassNo}
 use Rattle.stx_scenario.specs.declared.numbers.ListenerNo.{ListenerNo}
 use Rattle.stx_scenario.specs.declared.numbers.MethodNo.{MethodNo}
@@ -11,7 +12,6 @@ use Rattle.stx_scenario.specs.declared.scenario.Listener.{Listener}
 use Rattle.stx_scenario.specs.declared.scenario.Scenario.{Scenario}
 use Rattle.stx_scenario.specs.declared.scenario.Stmt.{Stmt}
 use Rattle.stx_scenario.specs.declared.scenario.SyncDecl.{SyncDecl}
-use Rattle.stx_base.specs.declared.history.Access.{Access}
 use Rattle.stx_base.specs.declared.history.PoolNote.{PoolNote}
 use Rattle.stx_base.specs.declared.history.StoreNote.{StoreNote}
 use Rattle.stx_base.specs.declared.line.Label.{Label}
@@ -27,11 +27,14 @@ use Rattle.stx_model.specs.Below.{CallbackBelow, CallbacksBelow, LabelBelow, Reg
 use Rattle.stx_model.specs.Contexts.{Context, Registration, ordered, registered, without_syncs}
 use Rattle.stx_model.specs.Ending.{completion, completion_refused}
 use Rattle.stx_model.specs.Listeners.{runs_in}
-use Rattle.stx_model.specs.Meanings.{State, Result, Over, and_then, say, with_context}
+use Rattle.stx_model.specs.Meanings.{State, Result, Over, and_then, say, with_context, finally}
 use Rattle.stx_model.specs.Playable.{IsPlayable}
-use Rattle.stx_model.specs.Script.{deals, statement}
+use Rattle.stx_model.specs.Scopes.{later_or}
+use Rattle.stx_model.specs.Script.{deals}
+use Rattle.stx_model.specs.Statements.{caught}
 use Rattle.stx_model.specs.Rounds.{Calls, callback, callback_line, callback_statement, called_back, listens_in, stopping_round, swallowing_round, sync_body, told}
 use Rattle.stx_context.specs.Carrying.{Carried, context_of}
+use Rattle.stx_frames.specs.declared.frame.Frame.{Frame}
 use Rattle.stx_manager.specs.Scopes.{OpenScope}
 use Rattle.stx_sync.specs.declared.registered.Registered.{Registered}
 use Rattle.stx_sync.specs.Registries.{registration}
@@ -41,13 +44,12 @@ use Rattle.stx_machine.specs.declared.machine.Machine.{Machine}
 use Rattle.stx_steps.specs.declared.rounds.Telling.{Telling}
 use Rattle.stx_machine.specs.declared.interception.Phase.{Phase}
 use Rattle.stx_machine.specs.declared.stage.Stage.{Stage}
-use Rattle.stx_machine.specs.declared.stage.Then.{Then}
-use Rattle.stx_machine.specs.Machine.{AreTold, IsClass, access_in, course_after, later_calls, put_back, row_in, run, state_before, whole_round, callback_of, last_told, left_round, listener_callback, rest_after, unwound, stack, status, stops, tells, told_after, untold, caller_rank, later_deeds, now_after, publication_of}
-use Rattle.stx_steps.specs.Steps.{IsToldOn, round_frame, begins_callback, listener_runs, telling_after, IsNext, IsTelling, MayCallBack}
-use Rattle.stx_machine.specs.Sound.{CallsRun, IsApart, IsAtRound, IsCall, IsPartTold, IsWithin, Shelters, Standing, below_rest, below_round, bond_of, due_after, due_in, due_told, ends_after, ends_syncs, is_due, no_tokens, rank_at, releases, standing_of, standing_under, without_own}
+use Rattle.stx_machine.specs.Machine.{AreTold, Call, IsClass, course_after, later_calls, put_back, run, state_before, whole_round, callback_of, last_told, left_round, listener_callback, rest_after, unwound, stack, status, stops, tells, told_after, untold, caller_rank, later_deeds, now_after, publication_of, Comes, acts_of, after_round, inside, of_top, on_top, phase_after, rounds_call, onward}
+use Rattle.stx_steps.specs.Steps.{IsToldOn, round_frame, begins_callback, listener_runs, telling_after, IsNext, IsTelling, MayCallBack, IsTakenOff, SaysCallback, TakesRound, tells_on}
+use Rattle.stx_machine.specs.Sound.{CallsRun, IsApart, IsAtRound, IsCall, IsPartTold, IsWithin, Shelters, Standing, below_rest, below_round, bond_of, due_after, due_in, due_told, ends_after, ends_syncs, is_due, no_tokens, rank_at, releases, standing_of, standing_under, without_own, BeginsRound, CallRounds, IsIntercepted, below_phase, owns_in}
+use Rattle.stx_steps.proofs.Coming.{comes_off}
 use Rattle.stx_machine.proofs.Endings.{refused_releases, refused_ends}
 use Rattle.stx_model.proofs.Callable.{by_order_all}
-use Rattle.stx_machine.proofs.RowLaws.{row_is}
 use Rattle.stx_machine.proofs.Places.{all_at, drop_at, drop_past}
 
 -- ---- a round on top
@@ -59,7 +61,7 @@ unfolding unwound
 resume_told S before t after r is = ap (λ fs. unwound S fs r) (sym is.frames)
 
 -- before the next callback, or before the first
-pub told_on : (S : Scenario) (n : ℕ) (before : Machine) (t : Telling) (after : Machine) (pool : List PoolNote) (store : List StoreNote) → IsToldOn before t after
+told_on : (S : Scenario) (n : ℕ) (before : Machine) (t : Telling) (after : Machine) (pool : List PoolNote) (store : List StoreNote) → IsToldOn before t after
     → later_calls S n before.top (unwound S (stack before.frames) (telling_after S t (Over None (state_before before pool store))))
     ≡ run S n (record after { stage = Stage.Over None }) pool store
 told_on S n before t after pool store is =
@@ -76,7 +78,7 @@ runs_told S before t after is telling calls =
     (subst (λ z. CallsRun S (standing_of z.context) (round_frame t ∷ put_back t.call (Phase.Round t.course) ∷ stack before.frames)) (sym is.rest)
     (round.call, round.intercepted, (round.due, round.class), telling.told, calls))
 
-pub within_told : (S : Scenario) (before : Machine) (t : Telling) (after : Machine) → IsToldOn before t after
+within_told : (S : Scenario) (before : Machine) (t : Telling) (after : Machine) → IsToldOn before t after
     → IsTelling S (rank_at S before) t (standing_of before.context)
     → IsApart S before (below_round t.call.interception.scope t.course (standing_of before.context)) → IsWithin S after no_tokens
 within_told S before t after is telling apart = record {
@@ -84,6 +86,37 @@ within_told S before t after is telling apart = record {
   top = subst (λ top. top < most_calls) (sym (ap (λ (z : Machine). z.top) is.rest)) apart.top;
   holds = ap (λ (z : Machine). z.tokens) is.rest ∙ apart.holds;
 }
+
+-- ---- a round and its call taken off
+
+module _ (S : Scenario) (m off : Machine) (frames : Room Call) (t : Telling) (round : Round) (todo : List Registered) (at place : ℕ) (x : Option ClassNo)
+    (top : stack m.frames ≡ Frame.Round round todo at place x ∷ stack frames) (takes : TakesRound (record m { frames = frames }) todo at place t off) where
+  both_off : stack m.frames ≡ Frame.Round round t.todo t.at t.place x ∷ put_back t.call (Phase.Round t.course) ∷ stack off.frames
+  both_off = top ∙ (λ k. Frame.Round round (sym takes.todo k) (sym takes.at k) (sym takes.place k) x ∷ takes.call k)
+
+  pub taken_off : IsWithin S m no_tokens → IsTakenOff S off t
+  taken_off within =
+      let calls = subst (CallsRun S (standing_of m.context)) both_off within.calls in
+      let was : m.context ≡ off.context = sym (ap (λ (z : Machine). z.context) takes.rest) in
+      record {
+        telling = subst (λ k. IsTelling S (rank_at S off) t (standing_of k)) was (record {
+          round = record { call = calls.0; intercepted = calls.1; due = calls.2.0; class = calls.2.1 };
+          told = calls.3;
+        });
+        apart = record {
+          calls = subst (λ k. CallsRun S (below_round t.call.interception.scope t.course (standing_of k)) (stack off.frames)) was calls.4;
+          top = subst (λ top. top < most_calls) (sym (ap (λ (z : Machine). z.top) takes.rest)) within.top;
+          holds = ap (λ (z : Machine). z.tokens) takes.rest ∙ within.holds;
+        };
+      }
+
+  -- what is left of it is what it was a piece of
+  pub goes_off : (after : Machine) (thrown : Option ClassNo) → Comes S off (λ st. telling_after S t (Over thrown st)) after → Comes S m (Over thrown) after
+  unfolding unwound
+  goes_off after thrown comes n pool store =
+      ap (λ fs. later_calls S n m.top (unwound S fs (Over thrown (state_before m pool store)))) both_off
+      ∙ ap (λ (z : Machine). later_calls S n z.top (unwound S (stack off.frames) (telling_after S t (Over thrown (state_before z pool store))))) (sym takes.rest)
+      ∙ comes n pool store
 
 -- ---- the callback of a registration
 
@@ -201,25 +234,6 @@ module _ (S : Scenario) (calls : Calls) (body : List Stmt) (place : ℕ) (st : S
   over_called (Some x) past = refl
   over_called None past = ap (λ b. callback S calls b st) (drop_past body place (past refl))
 
-module _ (S : Scenario) (calls : Calls) (st : State) where
-  as_statement : (s : Stmt) (a : Access) (d : Then) → access_in s ≡ Some (a, d) → callback_statement S calls s st ≡ statement S calls s st
-  unfolding statement
-  as_statement (Stmt.Read k) a d is = refl
-  as_statement (Stmt.Write k v) a d is = refl
-  as_statement (Stmt.Erase k) a d is = refl
-  as_statement (Stmt.Need k n) a d is = refl
-  as_statement (Stmt.Add k n) a d is = refl
-  as_statement (Stmt.Call m catch) a d is = cc
-  as_statement (Stmt.This m catch) a d is = cc
-  as_statement (Stmt.Throw x) a d is = cc
-  as_statement Stmt.Mark a d is = cc
-  as_statement (Stmt.Publish e) a d is = cc
-  as_statement (Stmt.Register r) a d is = cc
-
-  -- a statement on a row is its first access, and what is done with the answer
-  pub row_called : (s : Stmt) (a : Access) (d : Then) → access_in s ≡ Some (a, d) → callback_statement S calls s st ≡ row_in st.context.tx a d st
-  row_called s a d is = as_statement s a d is ∙ row_is S calls st s a d is
-
 module _ (S : Scenario) (calls : Calls) (course : Course) (todo : List Registered) (at place : ℕ) (st : State) where
   -- where it is over, those are told that are left
   pub over_told : IsNext (last_told S course todo at) place None None
@@ -232,6 +246,44 @@ module _ (S : Scenario) (calls : Calls) (course : Course) (todo : List Registere
       → course_after S calls course todo at place (Over None st) ≡ course_after S calls course todo at (place + 1) (callback_statement S calls s st)
   statement_told s here =
       ap (told_after S calls course.round course.committed (untold todo at)) (next_called S calls (last_told S course todo at) place st s here)
+
+-- a callback that threw nothing is over
+pub none_thrown : (S : Scenario) (t : Telling) (st : State) → IsNext (last_told S t.course t.todo t.at) t.place None None → telling_after S t (Over None st) ≡ tells_on S t st
+none_thrown S t st past =
+    ap (λ r. finally (finally r (after_round S t.call.method t.call.interception t.course)) (caught S t.call.catch))
+    (over_told S (inside S t.call.method) t.course t.todo t.at t.place st past)
+
+-- ---- the next callback
+
+-- none is left
+pub none_next : (S : Scenario) (t : Telling) (st : State) → slice_get t.todo t.at ≡ None → tells_on S t st ≡ acts_of S t.call (rest_after t.call.interception.scope.kind t.course.round t.course.rest.now None) (later_or None t.course.thrown) st
+none_next S t st past =
+    ap (λ r. finally (finally r (after_round S t.call.method t.call.interception t.course)) (caught S t.call.catch))
+    (last_was_told S (inside S t.call.method) t.course t.todo t.at st past)
+
+-- its lines were said, and it was put on top
+module _ (S : Scenario) (m said after : Machine) (t : Telling) (r : Registered) (there : slice_get t.todo t.at ≡ Some r)
+    (says : SaysCallback S t.course.round (status t.course.round t.course.committed) r.label m said)
+    (on : IsToldOn said (record t { at = t.at + 1; place = 0 }) after) where
+  pub goes_next : Comes S m (tells_on S t) (record after { stage = Stage.Over None })
+  goes_next n pool store =
+      let at : Machine → Result → Result = λ z r. onward S n z (finally (finally r (after_round S t.call.method t.call.interception t.course)) (caught S t.call.catch)) in
+      let begins : State → Result = λ st. course_after S (inside S t.call.method) t.course t.todo (t.at + 1) 0 (Over None st) in
+      ap (at m) (next_told S (inside S t.call.method) t.course t.todo t.at r (state_before m pool store) there)
+      ∙ ap (λ st. at m (begins st)) (says.state pool store)
+      ∙ ap (λ z. at z (begins (state_before said pool store))) (sym says.rest)
+      ∙ told_on S n said (record t { at = t.at + 1; place = 0 }) after pool store on
+
+  pub within_next : IsTakenOff S m t → IsWithin S after no_tokens
+  within_next off =
+      let next : Telling = record t { at = t.at + 1; place = 0 } in
+      let telling : IsTelling S (rank_at S m) next (standing_of m.context) = record {
+        round = off.telling.round;
+        told = one_more_told S t.call.method t.todo t.at r there off.telling.told;
+      } in
+      within_told S said next after on (subst (λ (z : Machine). IsTelling S (rank_at S z) next (standing_of z.context)) (sym says.rest) telling)
+      (subst (λ (z : Machine). IsApart S z (below_round t.call.interception.scope t.course (standing_of z.context))) (sym says.rest)
+      (record { calls = off.apart.calls; top = off.apart.top; holds = off.apart.holds }))
 
 -- ---- what a callback may do
 
@@ -531,6 +583,51 @@ module _ (S : Scenario) (before after : Machine) (call : Intercepted) (course : 
         top = subst (λ top. top < most_calls) (sym (ap (λ (z : Machine). z.top) begins.rest)) apart.top;
         holds = ap (λ (z : Machine). z.tokens) begins.rest ∙ apart.holds;
       }
+
+-- the call on top was taken off, its round began, and both were put on top
+module _ (S : Scenario) (m off mid after : Machine) (call : Intercepted) (course : Course) (told : List Registered)
+    (top : stack m.frames ≡ on_top call ∷ stack off.frames) (rest : off ≡ record m { frames = off.frames }) (phase : call.interception.phase ≡ Phase.Round course)
+    (begins : Begins course.round off mid) (are : AreTold told (context_of m.context))
+    (on : IsToldOn mid (record { call = call; course = course; todo = told; at = 0; place = 0 }) after) where
+  are_off : AreTold told (context_of off.context)
+  are_off = subst (λ (z : Machine). AreTold told (context_of z.context)) (sym rest) are
+
+  pub within_begun : CallRounds S (standing_of m.context) (stack m.frames) → length told < 2 ^ 32 → m.top < most_calls → m.tokens ≡ no_tokens → IsWithin S after no_tokens
+  within_begun rounds few early holds =
+      let i = call.interception in
+      let standing = standing_of off.context in
+      let there = subst (CallRounds S standing) top (subst (λ (z : Machine). CallRounds S (standing_of z.context) (stack m.frames)) (sym rest) rounds) in
+      let due = subst (BeginsRound S standing i) phase there.3 in
+      let at : IsAtRound S (rank_at S off) call standing course = record {
+        call = there.0;
+        intercepted = subst (λ p. IsIntercepted S call.method (owns_in i.scope p) standing.syncs) phase there.1;
+        due = due.0;
+        class = due.1;
+      } in
+      let apart : IsApart S off (below_round i.scope course standing) = record {
+        calls = subst (λ p. CallsRun S (below_phase i.scope p standing) (stack off.frames)) phase there.4;
+        top = subst (λ top. top < most_calls) (sym (ap (λ (z : Machine). z.top) rest)) early;
+        holds = ap (λ (z : Machine). z.tokens) rest ∙ holds;
+      } in
+      within_told S mid (record { call = call; course = course; todo = told; at = 0; place = 0 }) after on
+      (telling_begun S off mid call course begins there.2 told at are_off few) (apart_begun S off mid call course begins there.2 apart)
+
+  -- what the call was a piece of, where it was at this phase
+  abbrev in_phase : Phase → State → Result
+  in_phase p st = finally (phase_after S call.method call.place call.interception p (rounds_call S call.method call.interception p st)) (caught S call.catch)
+
+  goes_from_off : Comes S off (in_phase call.interception.phase) (record after { stage = Stage.Over None })
+  goes_from_off n pool store =
+      let calls = inside S call.method in
+      let at : Machine → Result → Result = λ z r. onward S n z (finally (finally r (after_round S call.method call.interception course)) (caught S call.catch)) in
+      ap (λ p. onward S n off (in_phase p (state_before off pool store))) phase
+      ∙ ap (at off) (whole_is S calls course.committed told off mid pool store are_off course.round begins)
+      ∙ ap (λ z. at z (tells S calls course.round course.committed (map registration told) (state_before mid pool store))) (sym begins.rest)
+      ∙ ap (at mid) (none_told S calls course told (state_before mid pool store))
+      ∙ told_on S n mid (record { call = call; course = course; todo = told; at = 0; place = 0 }) after pool store on
+
+  pub goes_begun : Comes S m (of_top S (stack m.frames) Stage.Rounding) (record after { stage = Stage.Over None })
+  goes_begun = comes_off S m (record after { stage = Stage.Over None }) off call (λ fs. of_top S fs Stage.Rounding) top rest goes_from_off
 
 -- ---- listeners that run at once
 

@@ -1,5 +1,5 @@
 -- What a small step is of, and what a note does: what it tells, rounds and publications that were taken off, statements, replies.
-use Rattle.std.specs.Prelude.{Bool, IsSome, IsTrue, List, None, Option, Some, [], false, length, slice_get, true, unwrap_or, ℕ, ⊤, ◌++◌, ◌+◌, ◌-◌, ◌<◌, ◌∷◌, ◌≡◌, ◌≤◌}
+use Rattle.std.specs.Prelude.{Bool, IsSome, IsTrue, List, None, Option, Some, [], false, length, slice_get, true, unwrap_or, ℕ, ⊤, ◌++◌, ◌+◌, ◌<◌, ◌∷◌, ◌≡◌, ◌≤◌}
 use Rattle.std.specs.Option.{option_map}
 use Rattle.stx_scenario.specs.declared.numbers.ClassNo.{ClassNo}
 use Rattle.stx_scenario.specs.declared.numbers.ListenerNo.{ListenerNo}
@@ -14,21 +14,22 @@ use Rattle.stx_base.specs.declared.line.Label.{Label}
 use Rattle.stx_base.specs.declared.manager.Round.{Round}
 use Rattle.stx_base.specs.declared.history.Note.{Note}
 use Rattle.stx_base.specs.declared.manager.Kind.{Kind}
-use Rattle.stx_base.specs.declared.manager.Opening.{Opening}
-use Rattle.stx_base.specs.Notes.{pool_line, store_line}
+use Rattle.stx_base.specs.Notes.{is_answer, pool_line, store_line}
 use Rattle.stx_base.specs.Attributes.{attribute}
 use Rattle.stx_base.specs.Weight.{rank}
 use Rattle.stx_model.specs.Contexts.{bare}
 use Rattle.stx_model.specs.Below.{SyncBelow}
-use Rattle.stx_model.specs.Listeners.{Deed, Register, deeds, runs_in}
+use Rattle.stx_model.specs.Listeners.{Deed, deeds, runs_in}
 use Rattle.stx_model.specs.Meanings.{Breaks, Meaning, Result, State, finally, say, with_context}
-use Rattle.stx_model.specs.Rounds.{callback, callback_line}
-use Rattle.stx_model.specs.Scopes.{begins, fresh_context, in_scope, suspended}
+use Rattle.stx_model.specs.Playable.{IsPlayable}
+use Rattle.stx_model.specs.Rounds.{callback_line}
+use Rattle.stx_model.specs.Scopes.{fresh_context, in_scope}
 use Rattle.stx_model.specs.Script.{body}
 use Rattle.stx_model.specs.Statements.{caught}
 use Rattle.stx_context.specs.Carrying as carrying
 use Rattle.stx_context.specs.Carrying.{context_of}
 use Rattle.stx_frames.specs.declared.frame.Frame.{Frame}
+use Rattle.stx_sync.specs.declared.registered.Registered.{Registered}
 use Rattle.stx_machine.specs.declared.completion.Intercepted.{Intercepted}
 use Rattle.stx_machine.specs.declared.interception.Course.{Course}
 use Rattle.stx_machine.specs.declared.interception.Interception.{Interception}
@@ -38,8 +39,8 @@ use Rattle.stx_machine.specs.declared.stage.Stage.{Stage}
 use Rattle.stx_base.specs.Limits.{most_calls}
 use Rattle.stx_machine.specs.declared.tokens.Tokens.{Tokens}
 use Rattle.stx_steps.specs.declared.rounds.Telling.{Telling}
-use Rattle.stx_machine.specs.Machine.{does, inside, attribute_of, statements, opened, pointed, begun, Call, stack, completes, after_round, tells, untold, course_after, later_deeds, piece, state_before, run, IsClass, put_back, IsIntercepting}
-use Rattle.stx_machine.specs.Sound.{no_tokens, runs, Standing, nothing, standing_of, due_told, IsCall, IsIntercepted, IsPartTold, DeedsBelow, CallCompletes}
+use Rattle.stx_machine.specs.Machine.{inside, attribute_of, statements, pointed, begun, Call, stack, after_round, tells, untold, course_after, later_deeds, state_before, run, want_of, IsClass, put_back, IsIntercepting}
+use Rattle.stx_machine.specs.Sound.{no_tokens, Standing, standing_of, due_told, IsCall, IsIntercepted, IsPartTold, DeedsBelow, CallCompletes, IsApart, IsSound, below_round, brought, held, held_out, rank_at}
 
 -- ---- what a small step deals with
 
@@ -57,6 +58,12 @@ deed_by S _ = None
 abbrev pub CanPrepare : Scenario → Stage → Type 0
 CanPrepare S (Stage.Opening m catch) = IsSome (attribute S m)
 CanPrepare S _ = ⊤
+
+-- a sound machine of a client that a playable scenario has
+pub record IsSoundClient (S : Scenario) (n : ℕ) (m : Machine) : Type 0 where
+  pub playable : IsPlayable S
+  pub client : n < length S.clients
+  pub sound : IsSound S m (held m.stage)
 
 -- ---- rounds
 
@@ -117,6 +124,16 @@ pub record IsToldOn (before : Machine) (t : Telling) (after : Machine) : Type 0 
   pub room : before.frames.spare ≡ after.frames.spare + 2
   pub rest : after ≡ record before { frames = after.frames }
 
+-- a round of these registrations, of which so many were told, was taken off with the call that it is part of; of the last
+-- one's callback so many statements were made
+pub record TakesRound (before : Machine) (registrations : List Registered) (told made : ℕ) (t : Telling) (after : Machine) : Type 0 where
+  pub call : stack before.frames ≡ put_back t.call (Phase.Round t.course) ∷ stack after.frames
+  pub todo : t.todo ≡ registrations
+  pub at : t.at ≡ told
+  pub place : t.place ≡ made
+  pub room : after.frames.spare ≡ before.frames.spare + 1
+  pub rest : after ≡ record before { frames = after.frames }
+
 -- a call that was taken off is one of which a round is made, and what comes after it
 pub record IsInRound (S : Scenario) (k : ℕ) (c : Intercepted) (standing : Standing) (course : Course) : Type 0 where
   pub call : IsCall S k c.method c.catch
@@ -128,6 +145,11 @@ pub record IsInRound (S : Scenario) (k : ℕ) (c : Intercepted) (standing : Stan
 pub record IsTelling (S : Scenario) (k : ℕ) (t : Telling) (standing : Standing) : Type 0 where
   pub round : IsInRound S k t.call standing t.course
   pub told : IsPartTold S t.call.method t.todo t.at
+
+-- it was taken off this machine
+pub record IsTakenOff (S : Scenario) (m : Machine) (t : Telling) : Type 0 where
+  pub telling : IsTelling S (rank_at S m) t (standing_of m.context)
+  pub apart : IsApart S m (below_round t.call.interception.scope t.course (standing_of m.context))
 
 -- ---- statements and callbacks
 
@@ -169,6 +191,14 @@ pub record IsEndingCall (S : Scenario) (m : Machine) : Type 0 where
   pub holds : m.tokens ≡ no_tokens
 
 -- ---- notes
+
+-- the note answers what the machine of a playable scenario wants, its line was said, and there is room for the step after it
+pub record IsHeard (S : Scenario) (note : Note) (m : Machine) : Type 0 where
+  pub playable : IsPlayable S
+  pub sound : IsSound S m (brought note (held_out m.stage))
+  pub answers : IsTrue (is_answer (want_of m.stage) note)
+  pub lines : 3 ≤ m.lines.spare
+  pub frames : 1 ≤ m.frames.spare
 
 -- the machine before a line was said
 abbrev pub before_line : Machine → List Line → Machine

@@ -1,10 +1,9 @@
 // What a note of the pool or of the store does, once its line is said.
 ghost use Rattle.std.specs.Prelude.{◌≡◌, ◌≤◌, ◌<◌, ◌^◌, ◌-◌, Some, None, IsSome, IsTrue};
 ghost use Rattle.stx_base.specs.declared.history.Note.{Note as NoteData};
-ghost use Rattle.stx_base.specs.Notes.{is_answer, note_line, pool_line as pool_line_of, store_line as store_line_of, pool_answers, store_answers};
+ghost use Rattle.stx_base.specs.Notes.{is_answer, note_line, pool_line as pool_line_of, store_line as store_line_of};
 ghost use Rattle.stx_machine.specs.Machine.{Comes, IsIntercepting, MovesLines, stack, want_of};
-ghost use Rattle.stx_steps.specs.Steps.{HasSuspended, Hears, HearsPool, HearsStore, finds_none, starts, starts_pointed, IsOpening};
-ghost use Rattle.stx_machine.specs.declared.stage.Stage.{Stage as StageData};
+ghost use Rattle.stx_steps.specs.Steps.{HasSuspended, Hears, IsHeard, HearsPool, HearsStore, finds_none, starts, starts_pointed, IsOpening};
 ghost use Rattle.stx_model.specs.Playable.{IsPlayable};
 ghost use Rattle.stx_conn.specs.Bindings.{new_binding};
 ghost use Rattle.stx_base.specs.Limits.{most_calls};
@@ -15,9 +14,8 @@ ghost use Rattle.stx_machine.specs.Sound.{CallOpens, CallPoints, IsSound, bond_o
 use std::alloc::Global;
 use stx_base::{Line, Note, PoolNote, StoreNote};
 use stx_conn::Holder;
-use stx_machine::{Intercepted, Machine, Phase, Place, Setup, Stage, attribute_of};
+use stx_machine::{Machine, Phase, Place, Setup, Stage, attribute_of};
 use stx_scenario::CANNOT_GET_JDBC_CONNECTION_EXCEPTION;
-use stx_sync::Registry;
 
 /// The one line of a note.
 pub fn line_of(note: Note) -> Line
@@ -74,11 +72,7 @@ pub fn hear(machine: &mut Machine, alloc: Global, setup: &Setup, note: Note)
 
 // Goes on after a note of the pool whose line was said.
 fn hear_pool(machine: &mut Machine, setup: &Setup, note: PoolNote)
-    requires playable { IsPlayable setup.now.scenario }
-    requires sound { IsSound setup.now.scenario machine.old (brought (NoteData.Pool note) (held_out machine.old.stage)) }
-    requires answers { IsTrue (pool_answers (want_of machine.old.stage) note) }
-    requires lines { 3 ≤ machine.old.lines.spare }
-    requires frames { 1 ≤ machine.old.frames.spare }
+    requires heard { IsHeard setup.now.scenario (NoteData.Pool note) machine.old }
     ensures goes { HearsPool setup.now.scenario note machine.old machine.new }
     ensures sound { IsSound setup.now.scenario machine.new (held machine.new.stage) }
     ensures longer { MovesLines machine.old machine.new }
@@ -106,11 +100,7 @@ fn hear_pool(machine: &mut Machine, setup: &Setup, note: PoolNote)
 
 // Goes on after a note of the store whose line was said.
 fn hear_store(machine: &mut Machine, alloc: Global, setup: &Setup, note: StoreNote)
-    requires playable { IsPlayable setup.now.scenario }
-    requires sound { IsSound setup.now.scenario machine.old (brought (NoteData.Store note) (held_out machine.old.stage)) }
-    requires answers { IsTrue (store_answers (want_of machine.old.stage) note) }
-    requires lines { 3 ≤ machine.old.lines.spare }
-    requires frames { 1 ≤ machine.old.frames.spare }
+    requires heard { IsHeard setup.now.scenario (NoteData.Store note) machine.old }
     ensures goes { HearsStore setup.now.scenario note machine.old machine.new }
     ensures sound { IsSound setup.now.scenario machine.new (held machine.new.stage) }
     ensures longer { MovesLines machine.old machine.new }
@@ -146,22 +136,11 @@ fn give_up_opening(machine: &mut Machine)
     ensures sound { (S : ScenarioData) → CallOpens S (stack machine.old.frames) → IsSound S machine.new (held machine.new.stage) }
     ensures longer { MovesLines machine.old machine.new }
 {
-    let Intercepted {
-        method,
-        place,
-        catch,
-        mut interception,
-    } = machine.take_off();
-    match interception.scope.take_held() {
+    let mut call = machine.take_off();
+    match call.interception.scope.take_held() {
         Some(suspended) => machine.resume(suspended),
         None => unreachable!(),
     }
-    let call = Intercepted {
-        method,
-        place,
-        catch,
-        interception,
-    };
     machine.put_back(call, Phase::Opening);
     machine.stage = Stage::Resuming;
 }
@@ -176,14 +155,9 @@ fn start_point(machine: &mut Machine)
     ensures sound { (S : ScenarioData) → CallPoints S (standing_of machine.old.context) (stack machine.old.frames) → machine.old.top < most_calls → machine.old.tokens ≡ no_tokens → IsSound S machine.new (held machine.new.stage) }
     ensures longer { MovesLines machine.old machine.new }
 {
-    let Intercepted {
-        method,
-        catch,
-        interception,
-        place: _,
-    } = machine.take_off();
+    let call = machine.take_off();
     enter_point(machine);
-    machine.start(method, catch, interception.into_scope());
+    machine.start(call.method, call.catch, call.interception.into_scope());
 }
 
 // One open savepoint more.
@@ -207,17 +181,12 @@ fn begin(machine: &mut Machine, alloc: Global, setup: &Setup, connection: u32, t
     ensures sound { IsSound setup.now.scenario machine.new (held machine.new.stage) }
     ensures longer { MovesLines machine.old machine.new }
 {
-    let Intercepted {
-        method,
-        catch,
-        interception,
-        place: _,
-    } = machine.take_off();
-    let scope = interception.into_scope();
-    let read_only = attribute_of(setup, method).read_only;
+    let call = machine.take_off();
+    let scope = call.interception.into_scope();
+    let read_only = attribute_of(setup, call.method).read_only;
     bind(machine, connection, tx, read_only);
     machine.start_syncs_if(alloc, scope.owns());
-    machine.start(method, catch, scope);
+    machine.start(call.method, call.catch, scope);
 }
 
 // Binds the connection that was taken, with the transaction that began on it.

@@ -2,20 +2,16 @@
 ghost use Rattle.std.specs.Prelude.{◌≡◌, ◌≤◌, ◌+◌, ◌&&◌, Bool, IfOk, drop, map, None, Some, false, slice_get};
 ghost use Rattle.std.specs.Option.{option_map};
 ghost use Rattle.stx_scenario.specs.declared.scenario.Scenario.{Scenario as ScenarioData};
-ghost use Rattle.stx_base.specs.Weight.{rank};
-ghost use Rattle.stx_model.specs.Below.{DeedBelow, ListenerBelow, listener_body};
+ghost use Rattle.stx_model.specs.Below.{ListenerBelow, listener_body};
 ghost use Rattle.stx_model.specs.Contexts.{is_active, is_live};
 ghost use Rattle.stx_model.specs.Listeners.{deeds};
-ghost use Rattle.stx_model.specs.Meanings.{Over, and_then};
+ghost use Rattle.stx_model.specs.Meanings.{Over};
 ghost use Rattle.stx_model.specs.Playable.{IsPlayable};
-ghost use Rattle.stx_model.specs.Rounds.{listens};
 ghost use Rattle.stx_model.specs.Script.{deals, publishes};
-ghost use Rattle.stx_model.specs.Statements.{order_of_listener, register_listener};
+ghost use Rattle.stx_model.specs.Statements.{order_of_listener};
 ghost use Rattle.stx_context.specs.Carrying.{context_of};
 ghost use Rattle.stx_events.specs.Deeds.{deed_of};
-ghost use Rattle.stx_machine.specs.declared.stage.Publication.{Publication as PublicationData};
-ghost use Rattle.stx_machine.specs.declared.stage.Stage.{Stage as StageData};
-ghost use Rattle.stx_machine.specs.Machine.{Comes, HasRegistryRoom, IsClass, IsLonger, Moves, MovesOn, calls_at, event_of as event_in, listener_of as listener_in, dealt, deeds_after, later_deeds, later_than, now_after, publication_of, registers_one, runs_one, stack};
+ghost use Rattle.stx_machine.specs.Machine.{Comes, HasRegistryRoom, IsClass, IsLonger, Moves, calls_at, event_of as event_in, listener_of as listener_in, dealt, deeds_after, later_deeds, later_than, now_after, publication_of, registers_one, runs_one, stack};
 ghost use Rattle.stx_steps.specs.Steps.{first_deed, IsNext};
 ghost use Rattle.stx_machine.specs.Sound.{DeedsBelow, IsBody, IsSound, IsWithin, Leaves, held, no_tokens, rank_at};
 
@@ -173,35 +169,18 @@ pub(crate) fn deal(
     ensures moves { Moves 1 machine.old machine.new }
 {
     match deed {
-        Some(deed) => deal_with(machine, setup, publication, deed),
+        Some(deed) => match deed {
+            Deed::Register(listener) => register_listener(machine, setup, publication, listener),
+            Deed::RunNow(listener) => run_now(machine, listener),
+            Deed::Skip(listener) => {
+                machine.lines.push(Line::Skip(listener));
+                machine.stage = Stage::Dealing(Publication {
+                    after: Some(listener),
+                    ..publication
+                });
+            }
+        },
         None => machine.stage = Stage::Over(None),
-    }
-}
-
-// Registers a listener, runs it at once, or skips it; it is the next of its publication.
-fn deal_with(machine: &mut Machine, setup: &Setup, publication: Publication, deed: Deed)
-    requires playable { IsPlayable setup.now.scenario }
-    requires deed { Some (deed_of deed) ≡ first_deed (later_deeds setup.now.scenario publication) }
-    requires below { DeedsBelow setup.now.scenario (rank_at setup.now.scenario machine.old) (later_deeds setup.now.scenario publication) }
-    requires body { IsBody (stack machine.old.frames) }
-    requires within { IsWithin setup.now.scenario machine.old no_tokens }
-    requires lines { 1 ≤ machine.old.lines.spare }
-    requires frames { 1 ≤ machine.old.frames.spare }
-    requires registry { HasRegistryRoom machine.old.context }
-    ensures goes { Comes setup.now.scenario machine.old (deals setup.now.scenario (calls_at setup.now.scenario (stack machine.old.frames)) (later_deeds setup.now.scenario publication)) machine.new }
-    ensures sound { IsSound setup.now.scenario machine.new (held machine.new.stage) }
-    ensures longer { IsLonger machine.old machine.new }
-{
-    match deed {
-        Deed::Register(listener) => register_listener(machine, setup, publication, listener),
-        Deed::RunNow(listener) => run_now(machine, listener),
-        Deed::Skip(listener) => {
-            machine.lines.push(Line::Skip(listener));
-            machine.stage = Stage::Dealing(Publication {
-                after: Some(listener),
-                ..publication
-            });
-        }
     }
 }
 

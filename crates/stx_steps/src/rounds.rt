@@ -2,7 +2,6 @@
 ghost use Rattle.std.specs.Prelude.{◌≡◌, ◌≤◌, ◌<◌, ◌+◌, ◌^◌, length, None, Some};
 ghost use Rattle.stx_scenario.specs.declared.scenario.Scenario.{Scenario as ScenarioData};
 ghost use Rattle.stx_base.specs.Limits.{most_calls};
-ghost use Rattle.stx_base.specs.Weight.{rank};
 ghost use Rattle.stx_model.specs.Contexts.{without_syncs};
 ghost use Rattle.stx_model.specs.Ending.{completion_refused as refused_of};
 ghost use Rattle.stx_model.specs.Meanings.{Over};
@@ -11,16 +10,16 @@ ghost use Rattle.stx_model.specs.Rounds.{callback_line as callback_line_of, call
 ghost use Rattle.stx_model.specs.Scopes.{later_or};
 ghost use Rattle.stx_context.specs.Carrying.{context_of};
 ghost use Rattle.stx_machine.specs.declared.stage.Stage.{Stage as StageData};
-ghost use Rattle.stx_machine.specs.Machine.{AreTold, Comes, calls_at, IsClass, Moves, MovesOn, acts_of, callback_of as callback_in, inside, last_told, left, left_after, left_of, of_top, rest_after as rest_in, rounds_of, stack, status as status_of, stops as stops_at};
-ghost use Rattle.stx_steps.specs.Steps.{IsRounding, IsToldOn, SaysCallback, runs_on, telling_after, tells_on, IsInRound, IsNext, IsTelling, MayCallBack};
-ghost use Rattle.stx_machine.specs.Sound.{CallRounds, IsApart, IsAtRound, IsSound, IsWithin, below_round, held, no_tokens, rank_at, standing_of};
+ghost use Rattle.stx_machine.specs.Machine.{AreTold, Comes, calls_at, IsClass, Moves, MovesOn, acts_of, callback_of as callback_in, last_told, left, left_after, left_of, of_top, rest_after as rest_in, stack, status as status_of, stops as stops_at};
+ghost use Rattle.stx_steps.specs.Steps.{IsRounding, IsTakenOff, IsToldOn, SaysCallback, runs_on, telling_after, tells_on, IsInRound, IsNext, MayCallBack};
+ghost use Rattle.stx_machine.specs.Sound.{CallRounds, IsApart, IsSound, IsWithin, below_round, held, no_tokens, rank_at, standing_of};
 
 use stx_base::{Action, Ending, Kind, Label, Line, Round};
 use stx_events::runs_in;
 use stx_frames::Frame;
 use stx_machine::{Course, Intercepted, Machine, Phase, Setup, Stage, access_of};
 use stx_manager::completion;
-use stx_scenario::{ClassNo, List, ListenerNo, MethodNo, Stmt};
+use stx_scenario::{ClassNo, List, ListenerNo, Stmt};
 use stx_sync::Registered;
 
 /// A round that was taken off the others with the call that it is part of: how many registrations were told, and how
@@ -190,19 +189,12 @@ fn put_back_round(machine: &mut Machine, telling: Telling)
     requires frames { 2 ≤ machine.old.frames.spare }
     ensures { IsToldOn machine.old telling machine.new }
 {
-    let Telling {
-        call,
-        course,
-        todo,
-        at,
-        place,
-    } = telling;
-    machine.put_back(call, Phase::Round(course));
+    machine.put_back(telling.call, Phase::Round(telling.course));
     machine.frames.push(Frame::Round {
-        round: course.round,
-        todo,
-        at,
-        place,
+        round: telling.course.round,
+        todo: telling.todo,
+        at: telling.at,
+        place: telling.place,
         thrown: None,
     });
 }
@@ -217,8 +209,7 @@ pub(crate) fn go_on_round(
 )
     requires playable { IsPlayable setup.now.scenario }
     requires class { IsClass setup.now.scenario thrown }
-    requires telling { IsTelling setup.now.scenario (rank_at setup.now.scenario machine.old) telling (standing_of machine.old.context) }
-    requires apart { IsApart setup.now.scenario machine.old (below_round telling.call.interception.scope telling.course (standing_of machine.old.context)) }
+    requires telling { IsTakenOff setup.now.scenario machine.old telling }
     requires lines { 3 ≤ machine.old.lines.spare }
     requires frames { 3 ≤ machine.old.frames.spare }
     ensures goes { Comes setup.now.scenario machine.old (λ st. telling_after setup.now.scenario telling (Over thrown st)) machine.new }
@@ -235,31 +226,18 @@ pub(crate) fn go_on_round(
 fn go_on_callback(machine: &mut Machine, setup: &Setup, telling: Telling, statement: Stmt)
     requires playable { IsPlayable setup.now.scenario }
     requires next { IsNext (last_told setup.now.scenario telling.course telling.todo telling.at) telling.place None (Some statement) }
-    requires telling { IsTelling setup.now.scenario (rank_at setup.now.scenario machine.old) telling (standing_of machine.old.context) }
-    requires apart { IsApart setup.now.scenario machine.old (below_round telling.call.interception.scope telling.course (standing_of machine.old.context)) }
+    requires telling { IsTakenOff setup.now.scenario machine.old telling }
     requires lines { 1 ≤ machine.old.lines.spare }
     requires frames { 3 ≤ machine.old.frames.spare }
     ensures goes { Comes setup.now.scenario machine.old (λ st. telling_after setup.now.scenario telling (Over None st)) machine.new }
     ensures sound { IsSound setup.now.scenario machine.new (held machine.new.stage) }
     ensures moves { MovesOn machine.old machine.new }
 {
-    let Telling {
-        call,
-        course,
-        todo,
-        at,
-        place,
-    } = telling;
-    put_back_round(
-        machine,
-        Telling {
-            call,
-            course,
-            todo,
-            at,
-            place: place + 1,
-        },
-    );
+    let next = Telling {
+        place: telling.place + 1,
+        ..telling
+    };
+    put_back_round(machine, next);
     make_in_callback(machine, setup, statement);
 }
 
@@ -288,8 +266,7 @@ pub(crate) fn make_in_callback(machine: &mut Machine, setup: &Setup, statement: 
 fn end_callback(machine: &mut Machine, setup: &Setup, telling: Telling, thrown: Option<ClassNo>)
     requires class { IsClass setup.now.scenario thrown }
     requires over { IsNext (last_told setup.now.scenario telling.course telling.todo telling.at) telling.place thrown None }
-    requires telling { IsTelling setup.now.scenario (rank_at setup.now.scenario machine.old) telling (standing_of machine.old.context) }
-    requires apart { IsApart setup.now.scenario machine.old (below_round telling.call.interception.scope telling.course (standing_of machine.old.context)) }
+    requires telling { IsTakenOff setup.now.scenario machine.old telling }
     requires lines { 3 ≤ machine.old.lines.spare }
     requires frames { 2 ≤ machine.old.frames.spare }
     ensures goes { Comes setup.now.scenario machine.old (λ st. telling_after setup.now.scenario telling (Over thrown st)) machine.new }
@@ -311,8 +288,7 @@ fn end_callback(machine: &mut Machine, setup: &Setup, telling: Telling, thrown: 
 
 // Begins the next callback, or ends the round after the last.
 fn tell_next(machine: &mut Machine, setup: &Setup, telling: Telling)
-    requires telling { IsTelling setup.now.scenario (rank_at setup.now.scenario machine.old) telling (standing_of machine.old.context) }
-    requires apart { IsApart setup.now.scenario machine.old (below_round telling.call.interception.scope telling.course (standing_of machine.old.context)) }
+    requires telling { IsTakenOff setup.now.scenario machine.old telling }
     requires lines { 2 ≤ machine.old.lines.spare }
     requires frames { 2 ≤ machine.old.frames.spare }
     ensures goes { Comes setup.now.scenario machine.old (tells_on setup.now.scenario telling) machine.new }
@@ -320,34 +296,22 @@ fn tell_next(machine: &mut Machine, setup: &Setup, telling: Telling)
     ensures held { held machine.new.stage ≡ no_tokens }
     ensures moves { Moves (left_after telling.course + 1) machine.old machine.new }
 {
-    let Telling {
-        call,
-        course,
-        todo,
-        at,
-        place: _,
-    } = telling;
-    match todo.get(at as usize) {
-        None => end_round(machine, call, course, None),
+    let Course {
+        round,
+        committed,
+        ..
+    } = telling.course;
+    match telling.todo.get(telling.at as usize) {
+        None => end_round(machine, telling.call, telling.course, None),
         Some(told) => {
             let label = told.label;
-            say_callback(
-                machine,
-                setup,
-                course.round,
-                status(course.round, course.committed),
-                label,
-            );
-            put_back_round(
-                machine,
-                Telling {
-                    call,
-                    course,
-                    todo,
-                    at: at + 1,
-                    place: 0,
-                },
-            );
+            say_callback(machine, setup, round, status(round, committed), label);
+            let next = Telling {
+                at: telling.at + 1,
+                place: 0,
+                ..telling
+            };
+            put_back_round(machine, next);
             machine.stage = Stage::Over(None);
         }
     }

@@ -1,5 +1,5 @@
 // Small steps: what is done at once, one piece at a time.
-ghost use Rattle.std.specs.Prelude.{◌≡◌, ◌≤◌, ◌<◌, ◌+◌, ◌^◌, ◌∷◌, length, map, true, false, OnOk, OnErr};
+ghost use Rattle.std.specs.Prelude.{◌≡◌, ◌≤◌, ◌<◌, ◌+◌, ◌^◌, length, map, true, false, OnOk, OnErr};
 ghost use Rattle.std.specs.Option.{option_map};
 ghost use Rattle.stx_events.specs.Deeds.{deed_of};
 ghost use Rattle.stx_base.specs.Weight.{body_of, rank};
@@ -8,10 +8,9 @@ ghost use Rattle.stx_model.specs.Playable.{IsPlayable};
 ghost use Rattle.stx_model.specs.Script.{statement as statement_in};
 ghost use Rattle.stx_context.specs.Carrying.{context_of};
 ghost use Rattle.stx_sync.specs.Registries.{registration};
-ghost use Rattle.stx_machine.specs.declared.interception.Phase.{Phase as PhaseData};
 ghost use Rattle.stx_machine.specs.declared.stage.Stage.{Stage as StageData};
-ghost use Rattle.stx_machine.specs.Machine.{Comes, ComesTo, Goes, HasRegistryRoom, IsClass, IsLonger, Moves, MovesLines, MovesOn, body_after, falls, inside, left, left_of, of_top, put_back, stack, told_by};
-ghost use Rattle.stx_steps.specs.Steps.{deed_by, IsRounding, IsEndingCall, IsNext, MayMake};
+ghost use Rattle.stx_machine.specs.Machine.{Comes, ComesTo, Goes, HasRegistryRoom, IsClass, IsLonger, Moves, MovesLines, MovesOn, body_after, falls, inside, left, left_of, of_top, stack, told_by};
+ghost use Rattle.stx_steps.specs.Steps.{deed_by, IsRounding, IsEndingCall, IsNext, IsSoundClient, MayMake, TakesRound};
 ghost use Rattle.stx_machine.specs.Sound.{IsApart, IsBody, IsCall, IsSound, IsWithin, ScopeRuns, below_call, held, no_tokens, rank_at, standing_of};
 
 use crate::ahead::{Ahead, prepare};
@@ -51,9 +50,7 @@ fn fall_to_line(
     setup: &Setup,
     number: u32,
 ) -> Result<(), NoMemory>
-    requires playable { IsPlayable setup.now.scenario }
-    requires client { number < length setup.now.scenario.clients }
-    requires sound { IsSound setup.now.scenario machine.old (held machine.old.stage) }
+    requires client { IsSoundClient setup.now.scenario number machine.old }
     ensures goes { Goes setup.now.scenario number machine.old machine.new }
     ensures sound { IsSound setup.now.scenario machine.new (held machine.new.stage) }
     ensures longer { OnOk result (falls machine.new.stage ≡ true → IsLonger machine.old machine.new) }
@@ -157,12 +154,7 @@ fn go_on(machine: &mut Machine, setup: &Setup, number: u32, thrown: Option<Class
 // The round of these registrations, with the innermost call, of which it is part.
 fn take_round(machine: &mut Machine, todo: List<Registered>, at: u32, place: u32) -> Telling
     requires call { IsRounding (stack machine.old.frames) }
-    ensures call { stack machine.old.frames ≡ put_back result.call (PhaseData.Round result.course) ∷ stack machine.new.frames }
-    ensures todo { result.todo ≡ todo }
-    ensures at { result.at ≡ at }
-    ensures place { result.place ≡ place }
-    ensures room { machine.new.frames.spare ≡ machine.old.frames.spare + 1 }
-    ensures rest { machine.new ≡ record machine.old { frames = machine.new.frames } }
+    ensures { TakesRound machine.old todo at place result machine.new }
 {
     let call = machine.take_off();
     match call.interception.phase {

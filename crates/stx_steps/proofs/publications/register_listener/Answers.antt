@@ -1,22 +1,10 @@
 -- The registration is at the end of the list.
-use Rattle.std.proofs.Common.{List, Option, Some, sym, subst}
-use Rattle.std.specs.Option.{option_map}
-use Rattle.stx_model.specs.Contexts.{Registration}
 use Rattle.stx_machine.specs.Machine.{stack}
-use Rattle.stx_machine.specs.Sound.{CallsRun, Standing, bond_of}
-use Rattle.stx_machine.proofs.Registering.{registers_run}
+use Rattle.stx_machine.proofs.Registering.{registry_runs}
 use Rattle.stx_steps.proofs.publications.register_listener.Goals as goal
 
 pub returns-in-Some-clause-sound : goal.returns-in-Some-clause-sound
 returns-in-Some-clause-sound c body below later within =
-    let S = c.args.setup.now.scenario in
     let m = c.args.machine.now in
-    let had = c.in-Some.registry.now in
-    let at : Option (List Registration) → Standing = λ syncs. record { bond = bond_of m.context.tx; syncs = syncs } in
-    let before : CallsRun S (at (Some had.list)) (stack m.frames) =
-    subst (λ o. CallsRun S (at (option_map (λ r. r.list) o)) (stack m.frames)) (sym c.in-Some.ensures.value) within.calls in
-    record {
-      stage = (later, body, subst (λ list. CallsRun S (at (Some list)) (stack m.frames)) (sym c.register.ensures.list) (registers_run S _ (stack m.frames) below (bond_of m.context.tx) had.list before));
-      top = within.top;
-      holds = within.holds;
-    }
+    let runs = registry_runs c.args.setup.now.scenario _ (stack m.frames) m.context _ c.register.new.self c.in-Some.ensures.value c.register.ensures.list below within.calls in
+    record { stage = (later, body, runs); top = within.top; holds = within.holds }

@@ -16,7 +16,7 @@ make_in_callback-requires-clause-may c =
     let S = c.args.setup.now.scenario in
     let t = c.args.telling in
     subst (λ fs. MayCallBack S (caller_rank S fs) c.args.statement) (sym c.put_back_round.ensures.frames)
-    (may_call_back S t.call.method t.course t.todo t.at t.place c.args.statement c.requires.playable c.requires.telling.told.below c.requires.next.1)
+    (may_call_back S t.call.method t.course t.todo t.at t.place c.args.statement c.requires.playable c.requires.telling.telling.told.below c.requires.next.1)
 
 pub make_in_callback-requires-clause-frames : goal.make_in_callback-requires-clause-frames
 make_in_callback-requires-clause-frames c = omega (arith, c.requires.frames, c.put_back_round.ensures.room)
