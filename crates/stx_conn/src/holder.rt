@@ -1,5 +1,6 @@
 // The holder itself: a connection and a session, and what is kept beside them.
 ghost use Rattle.std.specs.Prelude.{◌≡◌, ◌+◌, ◌-◌, ◌^◌, ◌<◌, true, false};
+ghost use Rattle.std.specs.Option.{is_some};
 ghost use Rattle.stx_conn.specs.Bindings.{new_binding};
 
 use std::marker::Model;
@@ -122,20 +123,16 @@ impl Holder {
         requires { self.running ≡ false }
         ensures { result ≡ self.connection }
     {
-        let Holder {
-            connection,
-            session,
-            transaction: _,
-            read_only: _,
-            mark: _,
-            points: _,
-        } = self;
+        let (connection, session) = self.into_tokens();
         let None = session else { unreachable!() };
         connection
     }
 
-    /// Retires the connection, and the session if it is still there.
-    pub fn retire(self) {
+    // The connection, and the session if it is still there.
+    fn into_tokens(self) -> (Connection, Option<Session>)
+        ensures connection { result.0 ≡ self.connection }
+        ensures session { is_some result.1 ≡ self.running }
+    {
         let Holder {
             connection,
             session,
@@ -144,6 +141,12 @@ impl Holder {
             mark: _,
             points: _,
         } = self;
+        (connection, session)
+    }
+
+    /// Retires the connection, and the session if it is still there.
+    pub fn retire(self) {
+        let (connection, session) = self.into_tokens();
         connection.retire();
         if let Some(session) = session {
             session.retire();
