@@ -14,14 +14,14 @@ module _ {J : Type 0} (name : List ℕ) (by : List Row → Option J) where
   with_fault [] rows some = absurd (some refl)
   with_fault (fault ∷ more) rows some = refl
 
-  -- the command line takes the words, and these are their rows
-  pub job_taken : (app : App) (all words : List (List ℕ)) (rows : List Row) → app ≡ app_named name → all ≡ name ∷ words
-      → fault_of app all ≡ [] → rows ≡ matches_of app all → job_stated name by words ≡ by rows
+  -- the command line takes the words, and this is what their rows state
+  pub job_taken : (app : App) (all words : List (List ℕ)) (rows : List Row) (found : Option J) → app ≡ app_named name → all ≡ name ∷ words
+      → fault_of app all ≡ [] → rows ≡ matches_of app all → found ≡ by rows → job_stated name by words ≡ found
   unfolding job_stated
-  job_taken app all words rows own named none gives =
+  job_taken app all words rows found own named none gives states =
       let taken : fault_of (app_named name) (name ∷ words) ≡ [] = rw (own, named) at none in
       let given : rows ≡ matches_of (app_named name) (name ∷ words) = rw (own, named) at gives in
-      without_fault _ _ taken ∙ ap by (sym given)
+      without_fault _ _ taken ∙ ap by (sym given) ∙ sym states
 
   -- the command line finds a fault in the words
   pub job_refused : (app : App) (all words : List (List ℕ)) → app ≡ app_named name → all ≡ name ∷ words

@@ -5,40 +5,57 @@ use Rattle.std.specs.declared.alloc.Global.{Global}
 use Rattle.clap.specs.Words.{App, Kinds, Row, fault_of, matches_of, with_rule}
 use Rattle.stx_words.specs.Options.{plain_app, do_rule, seed_rule, clients_rule, job_in, seed_in, clients_in, IsClientCount}
 use Rattle.stx_words.specs.declared.job.Job.{Job}
+use Rattle.stx_words.specs.declared.load.Load.{Load}
 use Rattle.stx_words.specs.declared.run_job.RunJob.{RunJob}
 
--- the job of `springtx` that a word under `--do` names
-abbrev pub job_named : List Row → List ℕ → Option Job
-job_named rows word =
+-- a load has a count of clients that can be
+abbrev pub CanLoad : Option Load → Type 0
+CanLoad (Some load) = IsClientCount load.clients
+CanLoad None = Unit {0}
+
+-- ---- the jobs of `springtx`
+
+-- the job that a word under `--do` names; a load is of these numbers
+abbrev pub job_named : Load → List ℕ → Option Job
+job_named load word =
     if bytes_eq word (codes "play") then Some Job.Play
     else (if bytes_eq word (codes "check") then Some Job.Check
     else (if bytes_eq word (codes "rules") then Some Job.Rules
-    else (if bytes_eq word (codes "load") then Some (Job.Load (seed_in rows) (clients_in rows))
+    else (if bytes_eq word (codes "load") then Some (Job.Load load.seed load.clients)
     else None)))
 
--- the job that the values of the options state
-abbrev pub job_by : List Row → Option Job
-job_by rows = option_and_then (job_named rows) (job_in rows)
+-- what its scenario is generated from; none where it is read
+abbrev pub load_of : Job → Option Load
+load_of (Job.Load seed clients) = Some (record { seed = seed; clients = clients })
+load_of _ = None
 
--- a load has a count of clients that can be
 abbrev pub HasClients : Job → Type 0
-HasClients (Job.Load seed clients) = IsClientCount clients
-HasClients _ = Unit {0}
+HasClients job = CanLoad (load_of job)
 
--- the job of `springtx_run` that a word under `--do` names
-abbrev pub run_job_named : List Row → List ℕ → Option RunJob
-run_job_named rows word =
+-- ---- the jobs of `springtx_run`
+
+abbrev pub run_job_named : Load → List ℕ → Option RunJob
+run_job_named load word =
     if bytes_eq word (codes "run") then Some RunJob.Run
-    else (if bytes_eq word (codes "load") then Some (RunJob.Load (seed_in rows) (clients_in rows))
+    else (if bytes_eq word (codes "load") then Some (RunJob.Load load.seed load.clients)
     else None)
 
--- the job that the values of the options state
-abbrev pub run_job_by : List Row → Option RunJob
-run_job_by rows = option_and_then (run_job_named rows) (job_in rows)
+abbrev pub run_load_of : RunJob → Option Load
+run_load_of RunJob.Run = None
+run_load_of (RunJob.Load seed clients) = Some (record { seed = seed; clients = clients })
 
 abbrev pub RunHasClients : RunJob → Type 0
-RunHasClients (RunJob.Load seed clients) = IsClientCount clients
-RunHasClients RunJob.Run = Unit {0}
+RunHasClients job = CanLoad (run_load_of job)
+
+-- ---- of any program
+
+-- the numbers that the values of the options state
+abbrev pub load_in : List Row → Load
+load_in rows = record { seed = seed_in rows; clients = clients_in rows }
+
+-- the job that the values of the options state
+abbrev pub job_by : {J : Type 0} → (Load → List ℕ → Option J) → List Row → Option J
+job_by named rows = option_and_then (named (load_in rows)) (job_in rows)
 
 -- the command line of a program of this name, without groups of options and rules between them
 abbrev pub app_named : List ℕ → App
@@ -57,8 +74,8 @@ job_stated name by words =
 
 -- the job that the words state to `springtx`, if they state one
 abbrev pub job_of : List (String Global) → Option Job
-job_of words = job_stated (codes "springtx") job_by (map string_bytes words)
+job_of words = job_stated (codes "springtx") (job_by job_named) (map string_bytes words)
 
 -- and to `springtx_run`
 abbrev pub run_job_of : List (String Global) → Option RunJob
-run_job_of words = job_stated (codes "springtx_run") run_job_by (map string_bytes words)
+run_job_of words = job_stated (codes "springtx_run") (job_by run_job_named) (map string_bytes words)

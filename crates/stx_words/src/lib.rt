@@ -4,6 +4,8 @@
 mod command;
 mod fault;
 mod job;
+mod jobs;
+mod load;
 mod matches;
 mod options;
 mod run_job;
@@ -11,4 +13,5 @@ mod run_job;
 pub use command::{read_run_words, read_words};
 pub use fault::WordsFault;
 pub use job::Job;
+pub use load::Load;
 pub use run_job::RunJob;

@@ -2,7 +2,9 @@
 ghost use Rattle.std.specs.Prelude.{◌≡◌, false, option_and_then, option_map, unwrap_or};
 ghost use Rattle.clap.specs.Words.{app_of, found_of, rows_of, rule_of};
 ghost use Rattle.stx_words.specs.Options.{plain_app, do_rule, seed_rule, clients_rule, job_in, seed_in, clients_in, client_count, IsClientCount};
+ghost use Rattle.stx_words.specs.Jobs.{load_in};
 
+use crate::Load;
 use clap::{Arg, ArgMatches, Command, value_parser};
 use std::alloc::Global;
 
@@ -50,15 +52,26 @@ pub(crate) fn job_in<'a>(matches: &ArgMatches<'a>) -> Option<&'a str>
     matches.get_str("do")
 }
 
+/// The numbers under `--seed` and `--clients`.
+pub(crate) fn load_in(matches: &ArgMatches<'_>) -> Load
+    ensures numbers { result ≡ load_in (rows_of (found_of matches.now)) }
+    ensures range { IsClientCount result.clients }
+{
+    Load {
+        seed: seed_in(matches),
+        clients: clients_in(matches),
+    }
+}
+
 /// The number under `--seed`.
-pub(crate) fn seed_in(matches: &ArgMatches<'_>) -> u64
+fn seed_in(matches: &ArgMatches<'_>) -> u64
     ensures { result ≡ seed_in (rows_of (found_of matches.now)) }
 {
     matches.get_one("seed").unwrap_or(1)
 }
 
 /// The number under `--clients`, from 1 to 64.
-pub(crate) fn clients_in(matches: &ArgMatches<'_>) -> u32
+fn clients_in(matches: &ArgMatches<'_>) -> u32
     ensures number { result ≡ clients_in (rows_of (found_of matches.now)) }
     ensures range { IsClientCount result }
 {
