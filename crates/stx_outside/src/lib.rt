@@ -15,7 +15,7 @@ pub use memory_sink::MemorySink;
 pub use memory_source::MemorySource;
 pub use sink::Sink;
 pub use source::Source;
-pub use standard::{StdSink, StdSource, StdStream};
+pub use standard::{StdSink, StdSource};
 pub use whole::{ReadEnd, read_whole, write_whole};
 
 #[cfg(test)]

@@ -7,14 +7,14 @@ use crate::{Failed, Sink, Source};
 use std::io::{Read, Write};
 use std::marker::Model;
 
-/// A reader or a writer with a count of its faults, as which contracts see it.
+/// A reader as a source. Contracts see it as its count of faults, which each error of the reader raises.
 #[derive(Debug, Drop)]
-pub struct StdStream<T> {
-    stream: T,
+pub struct StdSource<R> {
+    input: R,
     faults: u64,
 }
 
-impl<T> Model for StdStream<T> {
+impl<R> Model for StdSource<R> {
     ghost use Rattle.std.specs.Prelude.{ℕ};
 
     ghost Value = { ℕ };
@@ -22,23 +22,16 @@ impl<T> Model for StdStream<T> {
     ghost view = { λ s. s.faults };
 }
 
-impl<T> StdStream<T> {
-    /// A reader or a writer with no fault yet.
-    pub fn new(stream: T) -> Self
+impl<R: Read> StdSource<R> {
+    /// A source over a reader, with no fault yet.
+    pub fn new(input: R) -> Self
         ensures { result ≡ 0 }
     {
-        StdStream { stream, faults: 0 }
+        StdSource { input, faults: 0 }
     }
 }
 
-/// A reader as a source. Each error of the reader raises its count of faults.
-pub type StdSource<R> = StdStream<R>;
-
-/// A writer as a sink, which flushes after each write. Each error of the writer raises its count of faults, and so does
-/// each write that takes nothing of a slice that isn't empty.
-pub type StdSink<W> = StdStream<W>;
-
-impl<R: Read> Source for StdStream<R> {
+impl<R: Read> Source for StdSource<R> {
     ghost left = { λ _. None };
 
     ghost faults = { λ source. source };
@@ -46,17 +39,42 @@ impl<R: Read> Source for StdStream<R> {
     ghost turns = { λ _. 0 };
 
     fn read(&mut self, into: &mut [u8]) -> Result<usize, Failed> {
-        counted(read_once(&mut self.stream, into), &mut self.faults)
+        counted(read_once(&mut self.input, into), &mut self.faults)
     }
 }
 
-impl<W: Write> Sink for StdStream<W> {
+/// A writer as a sink, which flushes after each write. Contracts see it as its count of faults, which each
+/// error of the writer raises, and each write that takes nothing of a slice that isn't empty.
+#[derive(Debug, Drop)]
+pub struct StdSink<W> {
+    output: W,
+    faults: u64,
+}
+
+impl<W> Model for StdSink<W> {
+    ghost use Rattle.std.specs.Prelude.{ℕ};
+
+    ghost Value = { ℕ };
+
+    ghost view = { λ s. s.faults };
+}
+
+impl<W: Write> StdSink<W> {
+    /// A sink over a writer, with no fault yet.
+    pub fn new(output: W) -> Self
+        ensures { result ≡ 0 }
+    {
+        StdSink { output, faults: 0 }
+    }
+}
+
+impl<W: Write> Sink for StdSink<W> {
     ghost taken = { λ _. None };
 
     ghost faults = { λ sink. sink };
 
     fn write(&mut self, from: &[u8]) -> Result<usize, Failed> {
-        counted(write_once(&mut self.stream, from), &mut self.faults)
+        counted(write_once(&mut self.output, from), &mut self.faults)
     }
 }
 
