@@ -1,6 +1,6 @@
 -- The calls that a slot's client wants are proper after its seats' own calls, and there are only so many.
 use Rattle.std.proofs.Common.{◌≡◌, ℕ, zero, suc, ◌+◌, ◌-◌, ◌^◌, ◌<◌, ◌≤◌, List, [], ◌∷◌, ◌++◌, length, Option, Some, None, refl, sym, ap, ◌∙◌, subst, inl, inr, arith, length-append}
-use Rattle.std.specs.Prelude.{IsTrue}
+use Rattle.std.specs.Prelude.{Bool, IsTrue}
 use Rattle.std.specs.Option.{option_map}
 use Rattle.std.proofs.lemmas.List.{map-append}
 use Rattle.std.proofs.lemmas.Bool.Decides.{eqb_tells}
@@ -28,7 +28,7 @@ use Rattle.stx_runner.specs.inner.Slots.{AreOwn, IsGoing, IsNewSlot, IsReady, Is
 use Rattle.stx_shared.specs.declared.asking.Cells.{Cells}
 use Rattle.stx_shared.specs.declared.asking.SharedBackend.{SharedBackend}
 use Rattle.stx_shared.specs.Asking.{Asked, IsProperCall}
-use Rattle.stx_shared.specs.Logs.{NotesPoolCall, NotesStoreCall, pool_maker, store_maker}
+use Rattle.stx_shared.specs.Logs.{NotesPoolCall, NotesStoreCall, IsSeatCall, pool_maker, store_maker}
 use Rattle.stx_shared.proofs.LogLaws.{notes_by}
 use Rattle.stx_turn.specs.Histories.{made_by}
 use Rattle.stx_turn.specs.Seats.{SeatView, Added}
@@ -58,22 +58,17 @@ module _ (client : ClientView) (backend : SharedBackend) (ready : IsReady client
   below : client.number < most_clients
   below = omega (arith, ready.paired.below, ready.paired.playable.order.places.few_clients)
 
+  own_call : (who : ℕ) (is_proper : Bool) → who ≡ suc client.number → IsTrue is_proper → IsSeatCall who is_proper
+  own_call who is_proper seat proper = record { client = client.number; who_is = seat; below = below; proper = proper }
+
   -- what it wants is proper after its seats' own calls
   pub proper_call : (call : Call) → stop_of (script_of client) ≡ Some (call_want call) → IsProperCall backend call
-  proper_call (Call.Pool call) is = record {
-    client = client.number;
-    who_is = ready.paired.seats.pool;
-    below = below;
-    proper = subst (λ ns. IsTrue (pool_proper ns (pool_call_want call))) ready.going.pool
-        (proper_pool client.scenario ready.paired.playable.order client.number client.pool client.store ready.going.read takes_fresh call is);
-  }
-  proper_call (Call.Store call) is = record {
-    client = client.number;
-    who_is = ready.paired.seats.store;
-    below = below;
-    proper = subst (λ ns. IsTrue (store_proper ns (store_call_want call))) ready.going.store
-        (proper_store client.scenario ready.paired.playable.order client.number client.pool client.store ready.going.read begins_fresh call is);
-  }
+  proper_call (Call.Pool call) is =
+      let proper = proper_pool client.scenario ready.paired.playable.order client.number client.pool client.store ready.going.read takes_fresh call is in
+      own_call _ _ ready.paired.seats.pool (subst (λ ns. IsTrue (pool_proper ns (pool_call_want call))) ready.going.pool proper)
+  proper_call (Call.Store call) is =
+      let proper = proper_store client.scenario ready.paired.playable.order client.number client.pool client.store ready.going.read begins_fresh call is in
+      own_call _ _ ready.paired.seats.store (subst (λ ns. IsTrue (store_proper ns (store_call_want call))) ready.going.store proper)
 
   -- it has made no more calls than the weight allows
   pub within : count_notes client ≤ most_calls client.scenario

@@ -1,6 +1,6 @@
 -- What the histories of the pool and the store are to a turn cell: who made an entry, which call it notes, and which calls
 -- are proper. Client c has the seat c + 1.
-use Rattle.std.specs.Prelude.{◌≡◌, ℕ, suc, ◌<◌, List, Some, IsTrue}
+use Rattle.std.specs.Prelude.{◌≡◌, ℕ, suc, ◌<◌, Bool, List, Some, IsTrue}
 use Rattle.stx_base.specs.declared.call.PoolAnswer.{PoolAnswer}
 use Rattle.stx_base.specs.declared.call.PoolCall.{PoolCall}
 use Rattle.stx_base.specs.declared.call.Reply.{Reply}
@@ -30,15 +30,16 @@ pub record NotesStoreCall (entry : StoreEntry) (call : StoreCall) (answer : Stor
   pub note : store_note (store_call_want call) answer ≡ Some entry.note
   pub suits : IsTrue (is_reply_to (store_call_want call) (Reply.Store answer))
 
--- the call is proper for the client of this seat, after the entries that it made
-pub record IsPoolCallProper (who : ℕ) (mine : List PoolEntry) (call : PoolCall) : Type 0 where
+-- the seat is the client's, and its call is proper
+pub record IsSeatCall (who : ℕ) (is_proper : Bool) : Type 0 where
   pub client : ℕ
   pub who_is : who ≡ suc client
   pub below : client < most_clients
-  pub proper : IsTrue (pool_proper (pool_notes mine) (pool_call_want call))
+  pub proper : IsTrue is_proper
 
-pub record IsStoreCallProper (who : ℕ) (mine : List StoreEntry) (call : StoreCall) : Type 0 where
-  pub client : ℕ
-  pub who_is : who ≡ suc client
-  pub below : client < most_clients
-  pub proper : IsTrue (store_proper (store_notes mine) (store_call_want call))
+-- the call is proper for the client of this seat, after the entries that it made
+abbrev pub IsPoolCallProper : ℕ → List PoolEntry → PoolCall → Type 0
+IsPoolCallProper who mine call = IsSeatCall who (pool_proper (pool_notes mine) (pool_call_want call))
+
+abbrev pub IsStoreCallProper : ℕ → List StoreEntry → StoreCall → Type 0
+IsStoreCallProper who mine call = IsSeatCall who (store_proper (store_notes mine) (store_call_want call))

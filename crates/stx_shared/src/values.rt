@@ -1,5 +1,11 @@
 // The pool and the store, each as a value that turn cells take: it keeps one entry for each call that it answered.
+ghost use Rattle.std.proofs.Common.{lt_of_le_of_lt, lit<};
 ghost use Rattle.std.specs.Prelude.{◌≡◌};
+ghost use Rattle.stx_base.proofs.LegalLaws.{PoolLegal-short, StoreLegal-short};
+ghost use Rattle.stx_base.specs.Legal.{PoolLegal, StoreLegal};
+ghost use Rattle.stx_base.specs.Limits.{most_clients};
+ghost use Rattle.stx_base.specs.Notes.{pool_call_is_sure, store_call_is_sure};
+ghost use Rattle.stx_shared.specs.Logs.{pool_maker, store_maker, NotesPoolCall, NotesStoreCall, IsPoolCallProper, IsStoreCallProper};
 
 use std::alloc::Global;
 use std::marker::Model;
@@ -9,28 +15,32 @@ use stx_scenario::NoMemory;
 use stx_store::StoreCore;
 use stx_turn::Logged;
 
-/// A pool that is called in turns, seen as the pool that it is.
+/// A core that is called in turns, seen as the core that it is.
 #[derive(Drop)]
-pub struct PoolValue {
-    core: PoolCore,
+pub struct CoreValue<C> {
+    core: C,
 }
 
-impl Model for PoolValue {
-    ghost use Rattle.stx_pool.specs.Pool.{Pool};
+/// A pool as such a value.
+pub type PoolValue = CoreValue<PoolCore>;
 
-    ghost Value = { Pool };
+/// A store as such a value.
+pub type StoreValue = CoreValue<StoreCore>;
+
+impl<C> Model for CoreValue<C> {
+    ghost Value = { C };
 
     ghost view = { λ value. value.core };
 }
 
-impl PoolValue {
-    pub fn new(core: PoolCore) -> PoolValue
+impl<C> CoreValue<C> {
+    pub fn new(core: C) -> CoreValue<C>
         ensures { result ≡ core }
     {
-        PoolValue { core }
+        CoreValue { core }
     }
 
-    pub fn into_core(self) -> PoolCore
+    pub fn into_core(self) -> C
         ensures { result ≡ self }
     {
         self.core
@@ -38,13 +48,6 @@ impl PoolValue {
 }
 
 impl Logged for PoolValue {
-    ghost use Rattle.std.proofs.Common.{lt_of_le_of_lt, lit<};
-    ghost use Rattle.stx_base.proofs.LegalLaws.{PoolLegal-short};
-    ghost use Rattle.stx_base.specs.Notes.{pool_call_is_sure};
-    ghost use Rattle.stx_base.specs.Legal.{PoolLegal};
-    ghost use Rattle.stx_base.specs.Limits.{most_clients};
-    ghost use Rattle.stx_shared.specs.Logs.{pool_maker, NotesPoolCall, IsPoolCallProper};
-
     type Call = PoolCall;
 
     type Answer = PoolAnswer;
@@ -76,42 +79,7 @@ impl Logged for PoolValue {
     ghost legal_is_short = { λ facts history legal. lt_of_le_of_lt (PoolLegal-short most_clients facts history legal) (lit< tt) };
 }
 
-/// A store that is called in turns, seen as the store that it is.
-#[derive(Drop)]
-pub struct StoreValue {
-    core: StoreCore,
-}
-
-impl Model for StoreValue {
-    ghost use Rattle.stx_store.specs.Store.{Store};
-
-    ghost Value = { Store };
-
-    ghost view = { λ value. value.core };
-}
-
-impl StoreValue {
-    pub fn new(core: StoreCore) -> StoreValue
-        ensures { result ≡ core }
-    {
-        StoreValue { core }
-    }
-
-    pub fn into_core(self) -> StoreCore
-        ensures { result ≡ self }
-    {
-        self.core
-    }
-}
-
 impl Logged for StoreValue {
-    ghost use Rattle.std.proofs.Common.{lt_of_le_of_lt, lit<};
-    ghost use Rattle.stx_base.proofs.LegalLaws.{StoreLegal-short};
-    ghost use Rattle.stx_base.specs.Notes.{store_call_is_sure};
-    ghost use Rattle.stx_base.specs.Legal.{StoreLegal};
-    ghost use Rattle.stx_base.specs.Limits.{most_clients};
-    ghost use Rattle.stx_shared.specs.Logs.{store_maker, NotesStoreCall, IsStoreCallProper};
-
     type Call = StoreCall;
 
     type Answer = StoreAnswer;
