@@ -1,8 +1,6 @@
 // The note that a call and its reply make together, and the notes that a client has taken in.
 ghost use Rattle.std.specs.Prelude.{◌≡◌, ◌<◌, ◌⊎◌, [], Some, IfOk, OnErr, OnOk, IsTrue};
-ghost use Rattle.stx_base.specs.declared.call.Reply.{Reply as ReplyData};
-ghost use Rattle.stx_base.specs.declared.history.Note.{Note as NoteData};
-ghost use Rattle.stx_base.specs.Notes.{is_reply_to, note_of as note_in, pool_note as pool_note_in, store_note as store_note_in};
+ghost use Rattle.stx_base.specs.Notes.{is_reply_to, note_of as note_in};
 ghost use Rattle.stx_machine.specs.Sound.{brought};
 ghost use Rattle.stx_model.specs.Reads.{pool_with, store_with};
 ghost use Rattle.stx_client.specs.inner.Keeps.{Lacks};
@@ -65,53 +63,38 @@ pub(crate) fn note_of(want: Want, reply: Reply, tokens: &mut Tokens) -> Note
     ensures note { note_in want reply ≡ Some result }
     ensures tokens { tokens.new ≡ brought result tokens.old }
 {
-    match reply {
-        Reply::Pool(answer) => Note::Pool(pool_note(want, answer, tokens)),
-        Reply::Store(answer) => Note::Store(store_note(want, answer, tokens)),
-    }
-}
-
-fn pool_note(want: Want, answer: PoolAnswer, tokens: &mut Tokens) -> PoolNote
-    requires reply { IsTrue (is_reply_to want (ReplyData.Pool answer)) }
-    requires free { Lacks want tokens.old }
-    ensures note { pool_note_in want answer ≡ Some result }
-    ensures tokens { tokens.new ≡ brought (NoteData.Pool result) tokens.old }
-{
-    match (want, answer) {
-        (Want::Take, PoolAnswer::Taken(connection)) => {
+    match (want, reply) {
+        (Want::Take, Reply::Pool(PoolAnswer::Taken(connection))) => {
             let number = connection.number();
             tokens.keep_connection(connection);
-            PoolNote::Taken(number)
+            Note::Pool(PoolNote::Taken(number))
         }
-        (Want::Take, PoolAnswer::Empty) => PoolNote::Empty,
-        (Want::Give(number), PoolAnswer::Given) => PoolNote::Given(number),
-        _ => unreachable!(),
-    }
-}
-
-fn store_note(want: Want, answer: StoreAnswer, tokens: &mut Tokens) -> StoreNote
-    requires reply { IsTrue (is_reply_to want (ReplyData.Store answer)) }
-    requires free { Lacks want tokens.old }
-    ensures note { store_note_in want answer ≡ Some result }
-    ensures tokens { tokens.new ≡ brought (NoteData.Store result) tokens.old }
-{
-    match (want, answer) {
-        (Want::Begin, StoreAnswer::Begun(session)) => {
+        (Want::Take, Reply::Pool(PoolAnswer::Empty)) => Note::Pool(PoolNote::Empty),
+        (Want::Give(number), Reply::Pool(PoolAnswer::Given)) => Note::Pool(PoolNote::Given(number)),
+        (Want::Begin, Reply::Store(StoreAnswer::Begun(session))) => {
             let number = session.number();
             tokens.keep_session(session);
-            StoreNote::Begin(number)
+            Note::Store(StoreNote::Begin(number))
         }
-        (Want::Access(tx, access), StoreAnswer::Answered(answer)) => StoreNote::Access {
-            tx,
-            access,
-            answer,
-        },
-        (Want::Auto(access), StoreAnswer::Answered(answer)) => StoreNote::Auto { access, answer },
-        (Want::Point(tx), StoreAnswer::Pointed) => StoreNote::Point(tx),
-        (Want::BackTo(tx), StoreAnswer::BackedTo) => StoreNote::BackTo(tx),
-        (Want::Release(tx), StoreAnswer::Released) => StoreNote::Release(tx),
-        (Want::Commit(tx), StoreAnswer::Committed(number)) => StoreNote::Commit { tx, number },
-        (Want::Rollback(tx), StoreAnswer::RolledBack) => StoreNote::Rollback(tx),
+        (Want::Access(tx, access), Reply::Store(StoreAnswer::Answered(answer))) => {
+            Note::Store(StoreNote::Access { tx, access, answer })
+        }
+        (Want::Auto(access), Reply::Store(StoreAnswer::Answered(answer))) => {
+            Note::Store(StoreNote::Auto { access, answer })
+        }
+        (Want::Point(tx), Reply::Store(StoreAnswer::Pointed)) => Note::Store(StoreNote::Point(tx)),
+        (Want::BackTo(tx), Reply::Store(StoreAnswer::BackedTo)) => {
+            Note::Store(StoreNote::BackTo(tx))
+        }
+        (Want::Release(tx), Reply::Store(StoreAnswer::Released)) => {
+            Note::Store(StoreNote::Release(tx))
+        }
+        (Want::Commit(tx), Reply::Store(StoreAnswer::Committed(number))) => {
+            Note::Store(StoreNote::Commit { tx, number })
+        }
+        (Want::Rollback(tx), Reply::Store(StoreAnswer::RolledBack)) => {
+            Note::Store(StoreNote::Rollback(tx))
+        }
         _ => unreachable!(),
     }
 }

@@ -176,6 +176,7 @@ impl StoreCore {
     }
 
     /// Rolls back the transaction of a session.
+    #[tactic(auto, unfolding(stx_base::specs::Stores::store_reply))]
     pub fn rollback(&mut self, client: u32, session: Session)
         requires client { client < most_clients }
         requires proper { IsTrue (store_proper (store_notes_of self.old.entries client) (Want.Rollback session)) }

@@ -3,7 +3,7 @@ use Rattle.std.proofs.Common.{refl}
 use Rattle.stx_base.specs.declared.call.Want.{Want}
 use Rattle.stx_base.specs.declared.history.StoreNote.{StoreNote}
 use Rattle.stx_store.proofs.OwedLaws.{entry}
-use Rattle.stx_store.proofs.CoreLaws.{proper_in, replies, fits-return, owed-one, core-returned}
+use Rattle.stx_store.proofs.CoreLaws.{proper_in, fits-return, owed-one, core-returned}
 use Rattle.stx_store.proofs.store.StoreCore.back_to.Goals as goal
 
 pub keep_owed-requires-clause-some : goal.keep_owed-requires-clause-some
@@ -12,6 +12,3 @@ keep_owed-requires-clause-some c = owed-one c.self.inside.facts c.self.inside.en
 pub invariant_of-self : goal.invariant_of-self
 invariant_of-self c =
     core-returned c.self.inside.facts c.self.inside.entries.items c.self.inside.owed _ _ c.self.inside.begun c.self.inside.locks c.self.inside.rows c.self.inside.journal c.self.invariant c.args.client c.args.tx (fits-return c.self.inside.facts c.self.inside.entries.items c.self.inside.owed _ _ c.self.inside.begun c.self.inside.locks c.self.inside.rows c.self.inside.journal c.self.invariant c.args.client c.args.tx c.requires.client (proper_in c.self.inside.facts c.self.inside.entries.items _ c.args.client (Want.BackTo c.args.tx) c.self.view_is c.requires.proper)) _ _ _ _ c.back_to.new.self c.keep_owed.ensures.items c.keep_owed.ensures.owed c.keep_owed.ensures.len c.keep_owed.ensures.capacity c.back_to.ensures.values c.back_to.ensures.older
-
-pub returns : goal.returns
-returns c = replies c.self.inside.facts c.self.inside.entries.items c.keep_owed.new.entries.items _ c.args.client (StoreNote.BackTo c.args.tx) c.self.view_is (fits-return c.self.inside.facts c.self.inside.entries.items c.self.inside.owed _ _ c.self.inside.begun c.self.inside.locks c.self.inside.rows c.self.inside.journal c.self.invariant c.args.client c.args.tx c.requires.client (proper_in c.self.inside.facts c.self.inside.entries.items _ c.args.client (Want.BackTo c.args.tx) c.self.view_is c.requires.proper)) c.keep_owed.ensures.items
