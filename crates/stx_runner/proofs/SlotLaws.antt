@@ -101,36 +101,35 @@ module _ (client : ClientView) (backend : SharedBackend) (ready : IsReady client
   abbrev noted : Note → ClientView
   noted note = has_told (with_note client (Some note))
 
-  going_on : (call : Call) (reply : Reply) (after : SharedBackend) → Asked backend call reply after
-      → (note : Note) × (fed (calling client (call_want call)) reply ≡ noted note) × (HasReadAll (noted note) → IsGoing (noted note) after)
-  going_on (Call.Pool call) (Reply.Pool answer) after (added, same) = (
-    Note.Pool added.entry.note,
-    ap (λ o. has_told (with_note (calling client (pool_call_want call)) (option_map Note.Pool o))) added.fit.note,
-    λ read. record {
-      unfailed = ready.going.unfailed;
-      none_out = refl;
-      pool = ap (λ ns. ns ++ added.entry.note ∷ []) ready.going.pool ∙ sym (ap pool_notes added.gained ∙ map-append (λ e. e.note) backend.pool.mine (added.entry ∷ []));
-      store = ready.going.store ∙ ap (λ seat. store_notes seat.mine) (sym same);
-      read = read;
-      pool_own = own_after pool_maker NotesPoolCall (PoolLegal most_clients) backend.pool call answer after.pool client.scenario.settings.pool (suc client.number) added ready.paired.pool ready.paired.seats.pool;
-      store_own = subst (λ seat. AreOwn store_maker (StoreLegal most_clients) (store_facts client.scenario) (suc client.number) seat.mine) (sym same) ready.going.store_own;
-    },
-  )
-  going_on (Call.Store call) (Reply.Store answer) after (added, same) = (
-    Note.Store added.entry.note,
-    ap (λ o. has_told (with_note (calling client (store_call_want call)) (option_map Note.Store o))) added.fit.note,
-    λ read. record {
-      unfailed = ready.going.unfailed;
-      none_out = refl;
-      pool = ready.going.pool ∙ ap (λ seat. pool_notes seat.mine) (sym same);
-      store = ap (λ ns. ns ++ added.entry.note ∷ []) ready.going.store ∙ sym (ap store_notes added.gained ∙ map-append (λ e. e.note) backend.store.mine (added.entry ∷ []));
-      read = read;
-      pool_own = subst (λ seat. AreOwn pool_maker (PoolLegal most_clients) client.scenario.settings.pool (suc client.number) seat.mine) (sym same) ready.going.pool_own;
-      store_own = own_after store_maker NotesStoreCall (StoreLegal most_clients) backend.store call answer after.store (store_facts client.scenario) (suc client.number) added ready.paired.store ready.paired.seats.store;
-    },
-  )
-  going_on (Call.Pool call) (Reply.Store answer) after asked = elim asked [ ]
-  going_on (Call.Store call) (Reply.Pool answer) after asked = elim asked [ ]
+  -- the note of a call that was asked
+  note_of : (call : Call) (reply : Reply) (after : SharedBackend) → Asked backend call reply after → (note : Note) × (fed (calling client (call_want call)) reply ≡ noted note)
+  note_of (Call.Pool call) (Reply.Pool answer) after (added, same) = (Note.Pool added.entry.note, ap (λ o. has_told (with_note (calling client (pool_call_want call)) (option_map Note.Pool o))) added.fit.note)
+  note_of (Call.Store call) (Reply.Store answer) after (added, same) = (Note.Store added.entry.note, ap (λ o. has_told (with_note (calling client (store_call_want call)) (option_map Note.Store o))) added.fit.note)
+  note_of (Call.Pool call) (Reply.Store answer) after asked = elim asked [ ]
+  note_of (Call.Store call) (Reply.Pool answer) after asked = elim asked [ ]
+
+  going_on : (call : Call) (reply : Reply) (after : SharedBackend) (asked : Asked backend call reply after) → HasReadAll (noted (note_of call reply after asked).0) → IsGoing (noted (note_of call reply after asked).0) after
+  unfolding note_of
+  going_on (Call.Pool call) (Reply.Pool answer) after (added, same) read = record {
+    unfailed = ready.going.unfailed;
+    none_out = refl;
+    pool = ap (λ ns. ns ++ added.entry.note ∷ []) ready.going.pool ∙ sym (ap pool_notes added.gained ∙ map-append (λ e. e.note) backend.pool.mine (added.entry ∷ []));
+    store = ready.going.store ∙ ap (λ seat. store_notes seat.mine) (sym same);
+    read = read;
+    pool_own = own_after pool_maker NotesPoolCall (PoolLegal most_clients) backend.pool call answer after.pool client.scenario.settings.pool (suc client.number) added ready.paired.pool ready.paired.seats.pool;
+    store_own = subst (λ seat. AreOwn store_maker (StoreLegal most_clients) (store_facts client.scenario) (suc client.number) seat.mine) (sym same) ready.going.store_own;
+  }
+  going_on (Call.Store call) (Reply.Store answer) after (added, same) read = record {
+    unfailed = ready.going.unfailed;
+    none_out = refl;
+    pool = ready.going.pool ∙ ap (λ seat. pool_notes seat.mine) (sym same);
+    store = ap (λ ns. ns ++ added.entry.note ∷ []) ready.going.store ∙ sym (ap store_notes added.gained ∙ map-append (λ e. e.note) backend.store.mine (added.entry ∷ []));
+    read = read;
+    pool_own = subst (λ seat. AreOwn pool_maker (PoolLegal most_clients) client.scenario.settings.pool (suc client.number) seat.mine) (sym same) ready.going.pool_own;
+    store_own = own_after store_maker NotesStoreCall (StoreLegal most_clients) backend.store call answer after.store (store_facts client.scenario) (suc client.number) added ready.paired.store ready.paired.seats.store;
+  }
+  going_on (Call.Pool call) (Reply.Store answer) after asked read = elim asked [ ]
+  going_on (Call.Store call) (Reply.Pool answer) after asked read = elim asked [ ]
 
   one_noted : (note : Note) → count_notes (noted note) ≡ count_notes client + 1
   one_noted (Note.Pool n) = rw length-append (omega arith)
@@ -139,13 +138,12 @@ module _ (client : ClientView) (backend : SharedBackend) (ready : IsReady client
   -- a client that was fed the reply goes on
   pub going_after : (call : Call) (reply : Reply) (after : SharedBackend) (new : ClientView) → Asked backend call reply after → new ≡ fed (calling client (call_want call)) reply → HasReadAll new → IsGoing new after
   going_after call reply after new asked is_fed read =
-      let (note, made, going) = going_on call reply after asked in
-      let is = is_fed ∙ made in
-      subst (λ v. IsGoing v after) (sym is) (going (subst HasReadAll is read))
+      let is = is_fed ∙ (note_of call reply after asked).1 in
+      subst (λ v. IsGoing v after) (sym is) (going_on call reply after asked (subst HasReadAll is read))
 
   pub one_more_after : (call : Call) (reply : Reply) (after : SharedBackend) (new : ClientView) → Asked backend call reply after → new ≡ fed (calling client (call_want call)) reply → count_notes new ≡ count_notes client + 1
   one_more_after call reply after new asked is_fed =
-      let (note, made, _) = going_on call reply after asked in
+      let (note, made) = note_of call reply after asked in
       ap count_notes (is_fed ∙ made) ∙ one_noted note
 
 -- ---- slots

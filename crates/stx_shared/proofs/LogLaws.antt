@@ -44,26 +44,30 @@ stays P old new r made none keeps = either_way r made none keeps (λ same. subst
 
 -- ---- the entry that an answer of client c adds
 
-pub pool_noted : (old new : Pool) (who c : ℕ) (call : PoolCall) (answer : PoolAnswer) → suc c ≡ who → PoolCallAnswered old new c call answer → (e : PoolEntry) × (new.entries ≡ old.entries ++ e ∷ []) × (pool_maker e ≡ who) × NotesPoolCall e call answer
-pool_noted old new who c call answer seat answered =
+pub pool_noted : (old new : Pool) (who c : ℕ) (call : PoolCall) → suc c ≡ who → (answer : PoolAnswer) → PoolCallAnswered old new c call answer → (e : PoolEntry) × (new.entries ≡ old.entries ++ e ∷ []) × (pool_maker e ≡ who) × NotesPoolCall e call answer
+pool_noted old new who c call seat answer answered =
     let suits = pool_suits old.size old.entries (pool_call_want call) answer answered.note answered.made answered.replies.reply in
     (record { client = c; note = answered.note }, ap (λ pool. pool.entries) answered.replies.kept, seat, record { note = answered.made; suits = suits })
 
-pub store_noted : (old new : Store) (who c : ℕ) (call : StoreCall) (answer : StoreAnswer) → suc c ≡ who → StoreCallAnswered old new c call answer → (e : StoreEntry) × (new.entries ≡ old.entries ++ e ∷ []) × (store_maker e ≡ who) × NotesStoreCall e call answer
-store_noted old new who c call answer seat answered =
+pub store_noted : (old new : Store) (who c : ℕ) (call : StoreCall) → suc c ≡ who → (answer : StoreAnswer) → StoreCallAnswered old new c call answer → (e : StoreEntry) × (new.entries ≡ old.entries ++ e ∷ []) × (store_maker e ≡ who) × NotesStoreCall e call answer
+store_noted old new who c call seat answer answered =
     let suits = store_suits old.facts old.entries (store_call_want call) answer answered.note answered.made answered.replies.reply in
     (record { client = c; note = answered.note }, ap (λ store. store.entries) answered.replies.kept, seat, record { note = answered.made; suits = suits })
 
 -- ---- with it, a legal history stays legal
 
-pub pool_stays_legal : (old new : Pool) (c : ℕ) (call : PoolCall) (answer : PoolAnswer) → PoolCallAnswered old new c call answer → c < most_clients → IsTrue (pool_proper (pool_notes_of old.entries c) (pool_call_want call))
-    → PoolLegal most_clients old.size old.entries → PoolLegal most_clients new.size new.entries
-pool_stays_legal old new c call answer answered below proper legal =
-    let fits = PoolFits-reply most_clients old.size old.entries c (pool_call_want call) answered.note below proper answered.replies.reply in
-    subst (λ pool. PoolLegal most_clients pool.size pool.entries) (sym answered.replies.kept) (PoolLegal-push most_clients old.size old.entries _ legal fits)
+abbrev pub IsLegalPool : Pool → Type 0
+IsLegalPool pool = PoolLegal most_clients pool.size pool.entries
 
-pub store_stays_legal : (old new : Store) (c : ℕ) (call : StoreCall) (answer : StoreAnswer) → StoreCallAnswered old new c call answer → c < most_clients → IsTrue (store_proper (store_notes_of old.entries c) (store_call_want call))
-    → StoreLegal most_clients old.facts old.entries → StoreLegal most_clients new.facts new.entries
-store_stays_legal old new c call answer answered below proper legal =
+abbrev pub IsLegalStore : Store → Type 0
+IsLegalStore store = StoreLegal most_clients store.facts store.entries
+
+pub pool_stays_legal : (old new : Pool) (c : ℕ) (call : PoolCall) → c < most_clients → IsTrue (pool_proper (pool_notes_of old.entries c) (pool_call_want call)) → (answer : PoolAnswer) → PoolCallAnswered old new c call answer → IsLegalPool old → IsLegalPool new
+pool_stays_legal old new c call below proper answer answered legal =
+    let fits = PoolFits-reply most_clients old.size old.entries c (pool_call_want call) answered.note below proper answered.replies.reply in
+    subst IsLegalPool (sym answered.replies.kept) (PoolLegal-push most_clients old.size old.entries _ legal fits)
+
+pub store_stays_legal : (old new : Store) (c : ℕ) (call : StoreCall) → c < most_clients → IsTrue (store_proper (store_notes_of old.entries c) (store_call_want call)) → (answer : StoreAnswer) → StoreCallAnswered old new c call answer → IsLegalStore old → IsLegalStore new
+store_stays_legal old new c call below proper answer answered legal =
     let fits = StoreFits-reply most_clients old.facts old.entries c (store_call_want call) answered.note below proper answered.replies.reply in
-    subst (λ store. StoreLegal most_clients store.facts store.entries) (sym answered.replies.kept) (StoreLegal-push most_clients old.facts old.entries _ legal fits)
+    subst IsLegalStore (sym answered.replies.kept) (StoreLegal-push most_clients old.facts old.entries _ legal fits)
