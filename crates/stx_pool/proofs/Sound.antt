@@ -1,5 +1,5 @@
 -- What a take and a give keep true of the flags, the history and the room, and what a take replies by the flags.
-use Rattle.std.proofs.Common.{◌≡◌, ◌≢◌, ℕ, zero, suc, ◌+◌, ◌-◌, ◌<◌, ◌≤◌, Bool, true, false, not, ◌||◌, cond, List, [], ◌∷◌, ◌++◌, length, get_or, set, Some, None, IsTrue, position, refl, sym, ap, ◌∙◌, subst, inl, inr, arith, eq-eqb, ne_eqb, length-append, length-set, get_or-set_same, get_or-set_other}
+use Rattle.std.proofs.Common.{◌≡◌, ◌≢◌, ℕ, zero, suc, ◌+◌, ◌-◌, ◌<◌, ◌≤◌, Bool, true, false, not, ◌||◌, cond, List, [], ◌∷◌, ◌++◌, length, get_or, set, Some, None, IsTrue, position, refl, sym, ap, ◌∙◌, subst, inl, inr, arith, eq-eqb, ne_eqb, length-set, get_or-set_same, get_or-set_other}
 use Rattle.std.specs.List.{position_or_len}
 use Rattle.std.proofs.lemmas.Bool.{cases_eq, cases_lt, lt-ltb, not-true, not-false}
 use Rattle.std.proofs.lemmas.List.Quantifiers.{position-Some}
@@ -23,9 +23,9 @@ all_set (true ∷ flags) none (suc k) h = all_set flags (omega arith) k (omega a
 all_set (false ∷ flags) none k h = absurd (omega arith)
 
 -- the connections tell by their flags which of them is free first
-pub free_is_some : (flags : List Bool) (H : List PoolEntry) (capacity k : ℕ) → KeepsPool flags H capacity → position not flags ≡ Some k
+pub free_is_some : (flags : List Bool) (H : List PoolEntry) (spare k : ℕ) → KeepsPool flags H spare → position not flags ≡ Some k
     → first_free (length flags) 1 (out (pool_notes H)) ≡ Some (k + 1)
-free_is_some flags H capacity k sound found =
+free_is_some flags H spare k sound found =
     let at = position-Some not flags k false found in
     first_free-at (length flags) 1 (k + 1) (out (pool_notes H)) (omega arith) (omega (arith, at.0))
     (sym (sound.tells k at.0) ∙ not-true (get_or flags k false) at.1)
@@ -36,9 +36,9 @@ free_is_some flags H capacity k sound found =
     ∙ sym (sound.tells (n - 1) (omega (arith, at.0)))
     ∙ not-false (get_or flags (n - 1) false) (at.2 (n - 1) place))
 
-pub free_is_none : (flags : List Bool) (H : List PoolEntry) (capacity : ℕ) → KeepsPool flags H capacity → position not flags ≡ None
+pub free_is_none : (flags : List Bool) (H : List PoolEntry) (spare : ℕ) → KeepsPool flags H spare → position not flags ≡ None
     → first_free (length flags) 1 (out (pool_notes H)) ≡ None
-free_is_none flags H capacity sound none =
+free_is_none flags H spare sound none =
     let past : length flags ≤ position_or_len not flags = elim (cases_lt (position_or_len not flags) (length flags)) [
       | inl lt ↦ let some : Some (position_or_len not flags) ≡ None = ap (λ b. cond b (Some (position_or_len not flags)) None) (sym (lt-ltb (position_or_len not flags) (length flags) lt)) ∙ none in cc
       | inr le ↦ le
@@ -51,33 +51,33 @@ free_is_none flags H capacity sound none =
 
 -- ---- a take
 
-pub take_replies : (flags : List Bool) (H : List PoolEntry) (capacity k : ℕ) → KeepsPool flags H capacity → position not flags ≡ Some k
+pub take_replies : (flags : List Bool) (H : List PoolEntry) (spare k : ℕ) → KeepsPool flags H spare → position not flags ≡ Some k
     → pool_reply (length flags) H Want.Take ≡ Some (PoolNote.Taken (k + 1))
 unfolding pool_reply
-take_replies flags H capacity k sound found = ap (λ o. Some (taken_or_empty o)) (free_is_some flags H capacity k sound found)
+take_replies flags H spare k sound found = ap (λ o. Some (taken_or_empty o)) (free_is_some flags H spare k sound found)
 
-pub take_replies_empty : (flags : List Bool) (H : List PoolEntry) (capacity : ℕ) → KeepsPool flags H capacity → position not flags ≡ None
+pub take_replies_empty : (flags : List Bool) (H : List PoolEntry) (spare : ℕ) → KeepsPool flags H spare → position not flags ≡ None
     → pool_reply (length flags) H Want.Take ≡ Some PoolNote.Empty
 unfolding pool_reply
-take_replies_empty flags H capacity sound none = ap (λ o. Some (taken_or_empty o)) (free_is_none flags H capacity sound none)
+take_replies_empty flags H spare sound none = ap (λ o. Some (taken_or_empty o)) (free_is_none flags H spare sound none)
 
 abbrev pub by : ℕ → PoolNote → PoolEntry
 by client note = record { client = client; note = note }
 
 -- a flag is set, and a connection taken
-pub sound_take : (flags : List Bool) (H H' : List PoolEntry) (capacity capacity' client k : ℕ) → KeepsPool flags H capacity
+pub sound_take : (flags : List Bool) (H H' : List PoolEntry) (spare spare' client k : ℕ) → KeepsPool flags H spare
     → client < most_clients → IsTrue (pool_proper (pool_notes_of H client) Want.Take) → position not flags ≡ Some k
-    → H' ≡ H ++ by client (PoolNote.Taken (k + 1)) ∷ [] → length H + (length flags + 1) ≤ capacity'
-    → KeepsPool (set flags k true) H' capacity'
-sound_take flags H H' capacity capacity' client k sound low proper found grown room =
+    → H' ≡ H ++ by client (PoolNote.Taken (k + 1)) ∷ [] → length flags ≤ spare'
+    → KeepsPool (set flags k true) H' spare'
+sound_take flags H H' spare spare' client k sound low proper found grown room =
     let e : PoolEntry = by client (PoolNote.Taken (k + 1)) in
-    let fits : PoolFits most_clients (length flags) H e = record { client = low; proper = proper; reply = take_replies flags H capacity k sound found } in
+    let fits : PoolFits most_clients (length flags) H e = record { client = low; proper = proper; reply = take_replies flags H spare k sound found } in
     let legal : PoolLegal most_clients (length flags) (H ++ e ∷ []) = PoolLegal-push 64 (length flags) H e sound.legal fits in
     let within : k < length flags = (position-Some not flags k false found).0 in
     let long : length (set flags k true) ≡ length flags = length-set flags k true in
     let outs : out (pool_notes (H ++ e ∷ [])) ≡ (k + 1) ∷ out (pool_notes H) = out-push H e in
-    let one_in : length (out (pool_notes H)) < length flags = some_free 64 (length flags) (k + 1) H sound.legal (free_is_some flags H capacity k sound found) in
-    subst (λ es. KeepsPool (set flags k true) es capacity') (sym grown) (record {
+    let one_in : length (out (pool_notes H)) < length flags = some_free 64 (length flags) (k + 1) H sound.legal (free_is_some flags H spare k sound found) in
+    subst (λ es. KeepsPool (set flags k true) es spare') (sym grown) (record {
       few = omega (arith, sound.few);
       legal = subst (λ n. PoolLegal most_clients n (H ++ e ∷ [])) (sym long) legal;
       tells = λ j h. elim (cases_eq j k) [
@@ -90,63 +90,63 @@ sound_take flags H H' capacity capacity' client k sound low proper found grown r
             ∙ sym (ap (λ b. b || contains (out (pool_notes H)) (j + 1)) (ne_eqb (k + 1) (j + 1) (λ is. other (omega arith))))
             ∙ ap (λ ns. contains ns (j + 1)) (sym outs)
       ];
-      room = omega (arith, length-append H (e ∷ []), ap length outs);
+      room = omega (arith, ap length outs);
     })
 
 -- every connection is out
-pub sound_empty : (flags : List Bool) (H H' : List PoolEntry) (capacity capacity' client : ℕ) → KeepsPool flags H capacity
+pub sound_empty : (flags : List Bool) (H H' : List PoolEntry) (spare spare' client : ℕ) → KeepsPool flags H spare
     → client < most_clients → IsTrue (pool_proper (pool_notes_of H client) Want.Take) → position not flags ≡ None
-    → H' ≡ H ++ by client PoolNote.Empty ∷ [] → length H + (length flags + 1) ≤ capacity'
-    → KeepsPool flags H' capacity'
-sound_empty flags H H' capacity capacity' client sound low proper none grown room =
+    → H' ≡ H ++ by client PoolNote.Empty ∷ [] → length flags ≤ spare'
+    → KeepsPool flags H' spare'
+sound_empty flags H H' spare spare' client sound low proper none grown room =
     let e : PoolEntry = by client PoolNote.Empty in
-    let fits : PoolFits most_clients (length flags) H e = record { client = low; proper = proper; reply = take_replies_empty flags H capacity sound none } in
+    let fits : PoolFits most_clients (length flags) H e = record { client = low; proper = proper; reply = take_replies_empty flags H spare sound none } in
     let outs : out (pool_notes (H ++ e ∷ [])) ≡ out (pool_notes H) = out-push H e in
     let few_out : length (out (pool_notes H)) ≤ length flags = length-out 64 (length flags) H sound.legal in
-    subst (λ es. KeepsPool flags es capacity') (sym grown) (record {
+    subst (λ es. KeepsPool flags es spare') (sym grown) (record {
       few = sound.few;
       legal = PoolLegal-push 64 (length flags) H e sound.legal fits;
       tells = λ j h. sound.tells j h ∙ ap (λ ns. contains ns (j + 1)) (sym outs);
-      room = omega (arith, length-append H (e ∷ []), ap length outs);
+      room = omega (arith, ap length outs);
     })
 
 -- ---- a give
 
 -- what a client gives is out, and one of the pool's connections
-pub given_is_out : (flags : List Bool) (H : List PoolEntry) (capacity client n : ℕ) → KeepsPool flags H capacity
+pub given_is_out : (flags : List Bool) (H : List PoolEntry) (spare client n : ℕ) → KeepsPool flags H spare
     → IsTrue (pool_proper (pool_notes_of H client) (Want.Give n))
     → (contains (out (pool_notes H)) n ≡ true) × (1 ≤ n) × (n ≤ length flags)
-given_is_out flags H capacity client n sound proper =
+given_is_out flags H spare client n sound proper =
     let owned = out_is_owned 64 (length flags) H sound.legal in
     let there = owned.is_out client n (given_is_own (pool_notes_of H client) n proper) in
     let within = owned.within n there in
     (there, within.0, within.1)
 
 -- one connection less is out
-pub given_leaves : (flags : List Bool) (H : List PoolEntry) (capacity client n : ℕ) → KeepsPool flags H capacity
+pub given_leaves : (flags : List Bool) (H : List PoolEntry) (spare client n : ℕ) → KeepsPool flags H spare
     → IsTrue (pool_proper (pool_notes_of H client) (Want.Give n))
     → length (out (pool_notes H)) ≡ suc (length (without (out (pool_notes H)) n))
-given_leaves flags H capacity client n sound proper =
-    length-without (out (pool_notes H)) n (out_is_owned 64 (length flags) H sound.legal).apart (given_is_out flags H capacity client n sound proper).0
+given_leaves flags H spare client n sound proper =
+    length-without (out (pool_notes H)) n (out_is_owned 64 (length flags) H sound.legal).apart (given_is_out flags H spare client n sound proper).0
 
 pub give_replies : (size : ℕ) (H : List PoolEntry) (n : ℕ) → pool_reply size H (Want.Give n) ≡ Some (PoolNote.Given n)
 unfolding pool_reply
 give_replies size H n = refl
 
-pub sound_give : (flags : List Bool) (H H' : List PoolEntry) (capacity client n : ℕ) → KeepsPool flags H capacity
+pub sound_give : (flags : List Bool) (H H' : List PoolEntry) (spare spare' client n : ℕ) → KeepsPool flags H spare
     → client < most_clients → IsTrue (pool_proper (pool_notes_of H client) (Want.Give n))
-    → H' ≡ H ++ by client (PoolNote.Given n) ∷ []
-    → KeepsPool (set flags (n - 1) false) H' capacity
-sound_give flags H H' capacity client n sound low proper grown =
+    → H' ≡ H ++ by client (PoolNote.Given n) ∷ [] → spare ≡ spare' + 1
+    → KeepsPool (set flags (n - 1) false) H' spare'
+sound_give flags H H' spare spare' client n sound low proper grown less =
     let e : PoolEntry = by client (PoolNote.Given n) in
     let fits : PoolFits most_clients (length flags) H e = record { client = low; proper = proper; reply = give_replies (length flags) H n } in
     let legal : PoolLegal most_clients (length flags) (H ++ e ∷ []) = PoolLegal-push 64 (length flags) H e sound.legal fits in
-    let given = given_is_out flags H capacity client n sound proper in
+    let given = given_is_out flags H spare client n sound proper in
     let first : 1 ≤ n = given.1 in
     let last : n ≤ length flags = given.2 in
     let long : length (set flags (n - 1) false) ≡ length flags = length-set flags (n - 1) false in
     let outs : out (pool_notes (H ++ e ∷ [])) ≡ without (out (pool_notes H)) n = out-push H e in
-    subst (λ es. KeepsPool (set flags (n - 1) false) es capacity) (sym grown) (record {
+    subst (λ es. KeepsPool (set flags (n - 1) false) es spare') (sym grown) (record {
       few = omega (arith, sound.few);
       legal = subst (λ m. PoolLegal most_clients m (H ++ e ∷ [])) (sym long) legal;
       tells = λ j h. elim (cases_eq j (n - 1)) [
@@ -161,15 +161,15 @@ sound_give flags H H' capacity client n sound low proper grown =
             ∙ sym (contains-without_other (out (pool_notes H)) n (j + 1) differs)
             ∙ ap (λ ns. contains ns (j + 1)) (sym outs)
       ];
-      room = omega (arith, length-append H (e ∷ []), ap length outs, given_leaves flags H capacity client n sound proper, sound.room);
+      room = omega (arith, ap length outs, given_leaves flags H spare client n sound proper, sound.room);
     })
 
 -- ---- none is free exactly where all are out
 
-pub some_is_in : (flags : List Bool) (H : List PoolEntry) (capacity k : ℕ) → KeepsPool flags H capacity → position not flags ≡ Some k
+pub some_is_in : (flags : List Bool) (H : List PoolEntry) (spare k : ℕ) → KeepsPool flags H spare → position not flags ≡ Some k
     → length (out (pool_notes H)) < length flags
-some_is_in flags H capacity k sound found = some_free 64 (length flags) (k + 1) H sound.legal (free_is_some flags H capacity k sound found)
+some_is_in flags H spare k sound found = some_free 64 (length flags) (k + 1) H sound.legal (free_is_some flags H spare k sound found)
 
-pub none_is_in : (flags : List Bool) (H : List PoolEntry) (capacity : ℕ) → KeepsPool flags H capacity → position not flags ≡ None
+pub none_is_in : (flags : List Bool) (H : List PoolEntry) (spare : ℕ) → KeepsPool flags H spare → position not flags ≡ None
     → length (out (pool_notes H)) ≡ length flags
-none_is_in flags H capacity sound none = none_free 64 (length flags) H sound.legal (free_is_none flags H capacity sound none)
+none_is_in flags H spare sound none = none_free 64 (length flags) H sound.legal (free_is_none flags H spare sound none)

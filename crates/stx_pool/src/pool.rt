@@ -9,18 +9,18 @@ ghost use Rattle.stx_pool.specs.Pool.{PoolReplies, PoolCallAnswered, new_pool};
 use std::alloc::Global;
 use std::marker::Model;
 use stx_base::{Connection, PoolAnswer, PoolCall, PoolEntry, PoolNote, Want};
-use stx_scenario::{List, NoMemory};
+use stx_scenario::{List, NoMemory, Roomy};
 
 /// A pool of connections, seen as its size and its history.
 #[derive(Drop)]
 pub struct PoolCore {
-    entries: Vec<PoolEntry>,
+    entries: Roomy<PoolEntry>,
     // Whether each connection is out, from connection 1 on.
     is_out: Vec<bool>,
 }
 
 impl Model for PoolCore {
-    ghost use Rattle.std.specs.Prelude.{length, vec_capacity};
+    ghost use Rattle.std.specs.Prelude.{length};
     ghost use Rattle.stx_pool.specs.Pool.{Pool};
     ghost use Rattle.stx_pool.specs.inner.Keeps.{KeepsPool};
 
@@ -28,7 +28,7 @@ impl Model for PoolCore {
 
     ghost view = { λ p. record { size = length p.is_out.items; entries = p.entries.items } };
 
-    ghost invariant = { λ p. KeepsPool p.is_out.items p.entries.items (vec_capacity p.entries) };
+    ghost invariant = { λ p. KeepsPool p.is_out.items p.entries.items p.entries.spare };
 }
 
 impl PoolCore {
@@ -39,7 +39,7 @@ impl PoolCore {
         ensures { IfOk result (λ pool. pool ≡ new_pool size) }
     {
         Ok(PoolCore {
-            entries: Vec::new(alloc),
+            entries: Roomy::new(alloc),
             is_out: vec![in alloc; false; size as usize]?,
         })
     }
@@ -59,14 +59,14 @@ impl PoolCore {
             Some(place) => {
                 let number = place as u32 + 1;
                 self.is_out[place] = true;
-                self.entries.push_reserved(PoolEntry {
+                self.entries.push(PoolEntry {
                     client,
                     note: PoolNote::Taken(number),
                 });
                 Ok(Some(Connection::issue(number)))
             }
             None => {
-                self.entries.push_reserved(PoolEntry {
+                self.entries.push(PoolEntry {
                     client,
                     note: PoolNote::Empty,
                 });
@@ -84,7 +84,7 @@ impl PoolCore {
         let number = connection.number();
         connection.retire();
         self.is_out[number as usize - 1] = false;
-        self.entries.push_reserved(PoolEntry {
+        self.entries.push(PoolEntry {
             client,
             note: PoolNote::Given(number),
         });
@@ -127,7 +127,7 @@ impl PoolCore {
     pub fn into_entries(self) -> List<PoolEntry>
         ensures { result ≡ self.entries }
     {
-        List::from_vec(self.entries)
+        self.entries.into_list()
     }
 }
 

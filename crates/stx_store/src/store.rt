@@ -15,10 +15,10 @@ use std::marker::Model;
 use stx_base::{
     Access, Answer, Session, StoreAnswer, StoreCall, StoreEntry, StoreFacts, StoreNote, Want,
 };
-use stx_journal::{Committed, Journal};
+use stx_journal::Committed;
 use stx_locks::LockTable;
 use stx_rows::Rows;
-use stx_scenario::{List, NoMemory};
+use stx_scenario::{List, NoMemory, Roomy};
 
 /// A store of rows, seen as what it is made with and the entries of all calls so far.
 ///
@@ -35,7 +35,8 @@ pub struct StoreCore {
     begun: u32,
     locks: LockTable,
     rows: Rows,
-    journal: Journal,
+    /// The commits so far, in order.
+    journal: Roomy<Committed>,
 }
 
 impl Model for StoreCore {
@@ -66,7 +67,7 @@ impl StoreCore {
             begun: 0,
             locks: LockTable::new(alloc),
             rows,
-            journal: Journal::new(alloc),
+            journal: Roomy::new(alloc),
         })
     }
 
@@ -161,10 +162,10 @@ impl StoreCore {
     {
         let tx = session.number();
         session.retire();
-        let number = self.journal.list().len() as u64 + 1;
+        let number = self.journal.as_slice().len() as u64 + 1;
         let changes = self.rows.changes(tx);
         self.locks.end(tx);
-        self.journal.append(Committed {
+        self.journal.push(Committed {
             number,
             client,
             tx: Some(tx),
@@ -209,8 +210,8 @@ impl StoreCore {
         }
         let answer = answer_at(access, self.rows.read(row));
         let changes = put(&mut self.rows, alloc, access)?;
-        let number = self.journal.list().len() as u64 + 1;
-        self.journal.append(Committed {
+        let number = self.journal.as_slice().len() as u64 + 1;
+        self.journal.push(Committed {
             number,
             client,
             tx: None,
@@ -292,13 +293,13 @@ impl StoreCore {
     pub fn committed(&self) -> &[Committed]
         ensures { result.now ≡ committed_in self.now.facts.values self.now.entries }
     {
-        self.journal.list()
+        self.journal.as_slice()
     }
 
     /// The last commit, with what it changed.
     pub fn last_committed(&self) -> Option<&Committed>
         ensures { option_copied result ≡ last_committed self.now }
     {
-        self.journal.last()
+        self.journal.as_slice().last()
     }
 }

@@ -7,8 +7,8 @@ use Rattle.stx_base.specs.Pools.{contains, out}
 use Rattle.stx_base.specs.Legal.{PoolLegal}
 
 -- the flags say which connections are out in a legal history, and there is room to give each of these back
-pub record KeepsPool (flags : List Bool) (entries : List PoolEntry) (capacity : ℕ) : Type 0 where
+pub record KeepsPool (flags : List Bool) (entries : List PoolEntry) (spare : ℕ) : Type 0 where
   pub few : length flags ≤ most_connections
   pub legal : PoolLegal most_clients (length flags) entries
   pub tells : (k : ℕ) → k < length flags → slice_index_or flags k false ≡ contains (out (pool_notes entries)) (k + 1)
-  pub room : length entries + length (out (pool_notes entries)) ≤ capacity
+  pub room : length (out (pool_notes entries)) ≤ spare

@@ -14,19 +14,19 @@ index_mut-requires c =
     let given = given_is_out _ _ _ _ _ c.self.invariant proper in
     omega (arith, c.number-number.ensures, given.1, given.2, c.self.inside.is_out.ok.0)
 
-pub push_reserved-requires : goal.push_reserved-requires
-push_reserved-requires c =
+pub push-requires : goal.push-requires
+push-requires c =
     let proper = rw (← c.self.view_is) at c.requires.proper in
-    omega (arith, c.self.invariant.room, given_leaves _ _ _ _ _ c.self.invariant proper, c.self.inside.entries.ok.0)
+    omega (arith, c.self.invariant.room, given_leaves _ _ _ _ _ c.self.invariant proper)
 
 pub invariant_of-self : goal.invariant_of-self
 invariant_of-self c =
     let proper = rw (← c.self.view_is) at c.requires.proper in
-    rw (c.number-number.ensures, c.push_reserved.ensures.capacity)
-    (sound_give _ _ _ _ _ _ c.self.invariant c.requires.client proper (rw c.number-number.ensures at c.push_reserved.ensures.items))
+    rw c.number-number.ensures
+    (sound_give _ _ _ _ _ _ _ c.self.invariant c.requires.client proper (rw c.number-number.ensures at c.push.ensures.items) c.push.ensures.room)
 
 pub returns : goal.returns
 returns c = record {
   reply = give_replies _ _ _;
-  kept = rw (← c.self.view_is, c.push_reserved.ensures.items, c.number-number.ensures, length-set) refl;
+  kept = rw (← c.self.view_is, c.push.ensures.items, c.number-number.ensures, length-set) refl;
 }

@@ -9,23 +9,23 @@ invariant_of-self-in-Some c =
     let proper = rw (← c.self.view_is) at c.requires.proper in
     let found = c.in-Some.ensures ∙ ap (position not) c.deref.ensures.value in
     sound_take _ _ _ _ _ _ _ c.self.invariant c.requires.client proper (sym found)
-    (rw c.in_ok-reserve.ensures.items at c.push_reserved.ensures.items)
-    (omega (arith, c.in_ok-reserve.ensures.ok, c.self.inside.entries.ok.0, c.self.inside.is_out.ok.0))
+    (rw c.reserve.ensures.items at c.push.ensures.items)
+    (omega (arith, c.in_ok-reserve.ensures.room, c.push.ensures.room, c.self.inside.is_out.ok.0))
 
 pub invariant_of-self-in-None : goal.invariant_of-self-in-None
 invariant_of-self-in-None c =
     let proper = rw (← c.self.view_is) at c.requires.proper in
     let none = c.in-None.ensures ∙ ap (position not) c.deref.ensures.value in
     sound_empty _ _ _ _ _ _ c.self.invariant c.requires.client proper (sym none)
-    (rw c.in_ok-reserve.ensures.items at c.push_reserved-in-None.ensures.items)
-    (omega (arith, c.in_ok-reserve.ensures.ok, c.self.inside.entries.ok.0, c.self.inside.is_out.ok.0))
+    (rw c.reserve.ensures.items at c.push-in-None.ensures.items)
+    (omega (arith, c.in_ok-reserve.ensures.room, c.push-in-None.ensures.room, c.self.inside.is_out.ok.0))
 
 pub returns-in-Some-clause-ok : goal.returns-in-Some-clause-ok
 returns-in-Some-clause-ok c =
     let found = c.in-Some.ensures ∙ ap (position not) c.deref.ensures.value in
     record {
       reply = rw (← c.self.view_is, c.issue.ensures) (take_replies _ _ _ _ c.self.invariant (sym found));
-      kept = rw (← c.self.view_is, c.push_reserved.ensures.items, c.in_ok-reserve.ensures.items, c.issue.ensures, length-set) refl;
+      kept = rw (← c.self.view_is, c.push.ensures.items, c.reserve.ensures.items, c.issue.ensures, length-set) refl;
     }
 
 pub returns-in-Some-clause-empty : goal.returns-in-Some-clause-empty
@@ -39,7 +39,7 @@ returns-in-None-clause-ok c =
     let none = c.in-None.ensures ∙ ap (position not) c.deref.ensures.value in
     record {
       reply = rw (← c.self.view_is) (take_replies_empty _ _ _ c.self.invariant (sym none));
-      kept = rw (← c.self.view_is, c.push_reserved-in-None.ensures.items, c.in_ok-reserve.ensures.items) refl;
+      kept = rw (← c.self.view_is, c.push-in-None.ensures.items, c.reserve.ensures.items) refl;
     }
 
 pub returns-in-None-clause-empty : goal.returns-in-None-clause-empty
