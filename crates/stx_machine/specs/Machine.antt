@@ -37,7 +37,7 @@ use Rattle.stx_model.specs.Rounds.{Calls, Proxied, callback, stopping_round, swa
 use Rattle.stx_model.specs.Scopes.{Scope, leaves, acts, ends, begins, opens, in_scope, empty, later_or, live_in, older_if, ruled, say_each, say_unbind, started_syncs, suspend, suspended, within}
 use Rattle.stx_model.specs.Scopes.{completes as completes_so, resume}
 use Rattle.stx_model.specs.Script.{body, unscoped, invoked, calls_below, deals, tops, calls_of}
-use Rattle.stx_model.specs.Statements.{RowAccess, register_listener, throws, concludes, caught, is_value, unless_busy, access_row, nothing_more, needed, added, in_transaction, on_connection}
+use Rattle.stx_model.specs.Statements.{RowAccess, register_listener, registers, throws, concludes, caught, is_value, unless_busy, access_row, nothing_more, needed, added, in_transaction, on_connection}
 use Rattle.stx_context.specs.Carrying as carrying
 use Rattle.stx_context.specs.Carrying.{Carried, context_of}
 use Rattle.stx_manager.specs.Scopes.{OpenScope}
@@ -634,6 +634,17 @@ told_by S stage context = elim (tells_all S stage context) [ true ↦ ordered (r
 -- there is room for one registration more, where synchronisation is active
 abbrev pub HasRegistryRoom : Carried → Type 0
 HasRegistryRoom carried = IfSome carried.syncs (λ r. 1 ≤ r.spare)
+
+-- a registration was added, and its line said
+pub record Registers (r : Registration) (before after : Machine) : Type 0 where
+  pub state : (pool : List PoolNote) (store : List StoreNote) → registers r (context_of before.context).syncs (state_before before pool store) ≡ Over None (state_before after pool store)
+  pub rest : after ≡ record before { context = after.context; lines = after.lines }
+  pub longer : IsLonger before after
+
+-- it is added or not: it isn't where no synchronisation is active, and nothing changes then
+abbrev pub RegistersIf : Bool → Registration → Machine → Machine → Type 0
+RegistersIf true r before after = Registers r before after
+RegistersIf false r before after = (before.context.syncs ≡ None) × (after ≡ before)
 
 -- ---- completion
 

@@ -3,11 +3,12 @@ ghost use Rattle.std.specs.Prelude.{◌≡◌, ◌≤◌, false, Some, slice_get
 ghost use Rattle.stx_scenario.specs.declared.scenario.Scenario.{Scenario as ScenarioData};
 ghost use Rattle.stx_base.specs.declared.history.Access.{Access as AccessData};
 ghost use Rattle.stx_machine.specs.declared.stage.Then.{Then as ThenData};
-ghost use Rattle.stx_model.specs.Below.{SyncBelow};
+ghost use Rattle.stx_model.specs.Below.{LabelBelow, SyncBelow};
 ghost use Rattle.stx_model.specs.Statements.{value_of as value_in, added, concludes, marks, needed, order_of as order_in, register_sync, throws};
 ghost use Rattle.stx_model.specs.Playable.{IsPlayable};
-ghost use Rattle.stx_machine.specs.Sound.{Leaves, no_tokens, held_at, rank_at};
-ghost use Rattle.stx_machine.specs.Machine.{Comes, HasRegistryRoom, IsClass, IsLonger, MovesLines, access_in, accesses, row_answered, ends_access, falls, row_access, row_statement_of, sum_of};
+ghost use Rattle.stx_machine.specs.Sound.{CallsRun, Leaves, no_tokens, held_at, rank_at, standing_of};
+ghost use Rattle.stx_machine.specs.Machine.{Comes, HasRegistryRoom, IsClass, IsLonger, MovesLines, RegistersIf, access_in, accesses, row_answered, ends_access, falls, row_access, row_statement_of, stack, sum_of};
+ghost use Rattle.stx_sync.specs.Registries.{registration};
 
 use crate::machine::Machine;
 use crate::setup::Setup;
@@ -112,13 +113,27 @@ impl Machine {
     {
         let label = Label::Sync(sync);
         let order = order_of(setup, sync);
+        if self.add_registration(Registered { label, order }) {
+            self.stage = Stage::Over(None);
+        } else {
+            self.throw(ILLEGAL_STATE_EXCEPTION);
+        }
+    }
+
+    /// Adds a registration and says its line, where synchronisation is active; else it answers `false`.
+    pub fn add_registration(&mut self, registered: Registered) -> bool
+        requires lines { 1 ≤ self.old.lines.spare }
+        requires registry { HasRegistryRoom self.old.context }
+        ensures registers { RegistersIf result (registration registered) self.old self.new }
+        ensures runs { (S : ScenarioData) → LabelBelow S (rank_at S self.old) registered.label → CallsRun S (standing_of self.old.context) (stack self.old.frames) → CallsRun S (standing_of self.new.context) (stack self.old.frames) }
+    {
         match self.context.registry() {
             Some(registry) => {
-                registry.register(Registered { label, order });
-                self.lines.push(Line::Register(label));
-                self.stage = Stage::Over(None);
+                registry.register(registered);
+                self.lines.push(Line::Register(registered.label));
+                true
             }
-            None => self.throw(ILLEGAL_STATE_EXCEPTION),
+            None => false,
         }
     }
 

@@ -200,16 +200,13 @@ fn register_listener(
 {
     let label = Label::Listener(listener);
     let order = order_of(setup, listener);
-    match machine.context.registry() {
-        Some(registry) => {
-            registry.register(Registered { label, order });
-            machine.lines.push(Line::Register(label));
-            machine.stage = Stage::Dealing(Publication {
-                after: Some(listener),
-                ..publication
-            });
-        }
-        None => machine.throw(ILLEGAL_STATE_EXCEPTION),
+    if machine.add_registration(Registered { label, order }) {
+        machine.stage = Stage::Dealing(Publication {
+            after: Some(listener),
+            ..publication
+        });
+    } else {
+        machine.throw(ILLEGAL_STATE_EXCEPTION);
     }
 }
 
