@@ -1,16 +1,16 @@
--- Statements, rules and methods by the number of their words.
+-- Texts by their pieces, and statements by the number of their words.
 use Rattle.std.proofs.Common.{◌≡◌, ◌≢◌, ℕ, suc, ◌==◌, List, [], ◌∷◌, ◌++◌, length, drop, get_or, ◌+◌, ◌<◌, lit<, Option, Some, None, IfSome, IfNone, Bor, true, false, refl, ap, ◌∙◌, inl, inr, arith}
 use Rattle.std.proofs.lemmas.Bool.{cases_Bool}
 use Rattle.std.proofs.lemmas.Bool.Decides.{nat_tests}
 use Rattle.std.proofs.lemmas.List.Splits.{slice_split-cons_yes, slice_split-cons_no, length-slice_split}
 use Rattle.std.proofs.lemmas.Str.Pattern.{IsSplitOnceResult, split_parts, strip_prefix_char}
 use Rattle.std.specs.List.{slice_split, onto_first}
-use Rattle.std.specs.Option.{option_map, option_and_then, MatchOption}
+use Rattle.std.specs.Option.{option_map, MatchOption}
 use Rattle.std.specs.Str.Pattern.{FindsCharPrefix}
 use Rattle.stx_names.specs.declared.sentence.Matched.{Matched}
-use Rattle.stx_names.specs.Sentences.{words_of, parts_of, name_in, two_names, method_in, alone, about, with_value, with_catch, sentence_of, sentence_in, decision_in, rule_with, rule_of, rule_in, class_in, pattern_in, matched_in}
+use Rattle.stx_names.specs.Sentences.{pieces_of, words_of, alone, about, with_value, with_catch, sentence_of, sentence_in, class_in, pattern_in, matched_in}
 
--- ---- what `split_once` says of parts
+-- ---- what `split_once` says of pieces
 
 module _ (c : ℕ) where
   alien : (b : ℕ) → b ≢ c → (b == c) ≡ false
@@ -32,13 +32,13 @@ module _ (c : ℕ) where
       slice_split-cons_no (λ b. b == c) b (first ++ c ∷ rest) (alien b (other 0 (omega arith)))
       ∙ ap (onto_first b) (cut_at first rest (λ i within. other (suc i) (omega arith)))
 
-  pub cut_parts : (text : List ℕ) (r : Option (Bor (List ℕ) × Bor (List ℕ))) → IsSplitOnceResult c text r → c < 128
-      → MatchOption r (slice_split (λ b. b == c) text ≡ text ∷ []) (λ cut. slice_split (λ b. b == c) text ≡ cut.0.now ∷ slice_split (λ b. b == c) cut.1.now)
-  cut_parts text r cut small = by r (split_parts c text r cut small)
+  pub cut_pieces : (text : List ℕ) (r : Option (Bor (List ℕ) × Bor (List ℕ))) → IsSplitOnceResult c text r → c < 128
+      → MatchOption r (pieces_of c text ≡ text ∷ []) (λ cut. pieces_of c text ≡ cut.0.now ∷ pieces_of c cut.1.now)
+  cut_pieces text r cut small = by r (split_parts c text r cut small)
     where
       by : (r : Option (Bor (List ℕ) × Bor (List ℕ)))
           → MatchOption r ((i : ℕ) → i < length text → get_or text i 0 ≢ c) (λ x. (text ≡ x.0.now ++ (c ∷ x.1.now)) × ((i : ℕ) → i < length x.0.now → get_or x.0.now i 0 ≢ c))
-          → MatchOption r (slice_split (λ b. b == c) text ≡ text ∷ []) (λ cut. slice_split (λ b. b == c) text ≡ cut.0.now ∷ slice_split (λ b. b == c) cut.1.now)
+          → MatchOption r (pieces_of c text ≡ text ∷ []) (λ cut. pieces_of c text ≡ cut.0.now ∷ pieces_of c cut.1.now)
       by None none = whole text none
       by (Some x) parts = ap (slice_split (λ b. b == c)) parts.0 ∙ cut_at x.0.now x.1.now parts.1
 
@@ -50,9 +50,9 @@ pub if_none : {X : Type 0} (r : Option X) (A : Type 0) (P : X → Type 0) → Ma
 if_none None A P m = m
 if_none (Some x) A P m = tt
 
--- a text has some part
-some_part : (c : ℕ) (text : List ℕ) → 0 < length (slice_split (λ b. b == c) text)
-some_part c text = omega (arith, length-slice_split (λ b. b == c) text)
+-- a text has some piece
+some_piece : (c : ℕ) (text : List ℕ) → 0 < length (pieces_of c text)
+some_piece c text = omega (arith, length-slice_split (λ b. b == c) text)
 
 -- ---- sentences by their words
 
@@ -82,45 +82,17 @@ module _ (text : List ℕ) where
   unfolding sentence_in
   five_words verb object word class rest after last over first second third fourth =
       ap sentence_of (first ∙ ap (λ more. verb ∷ more) (second ∙ ap (λ more. object ∷ more) (third ∙ ap (λ more. word ∷ more) fourth)))
-      ∙ by (words_of over) (some_part 32 over)
+      ∙ by (words_of over) (some_piece 32 over)
     where
       by : (more : List (List ℕ)) → 0 < length more → sentence_of (verb ∷ object ∷ word ∷ class ∷ more) ≡ None
       by [] some = absurd (omega arith)
       by (w ∷ more) some = refl
 
--- ---- rules and methods by theirs
+-- ---- texts of more than two pieces
 
-module _ (text : List ℕ) where
-  pub rule_words : (verb rest : List ℕ) → words_of text ≡ verb ∷ words_of rest → words_of rest ≡ rest ∷ []
-      → rule_in text ≡ option_and_then (rule_with rest) (decision_in verb)
-  unfolding rule_in
-  rule_words verb rest first second = ap rule_of (first ∙ ap (λ more. verb ∷ more) second)
-
-  pub one_rule_word : words_of text ≡ text ∷ [] → rule_in text ≡ None
-  unfolding rule_in
-  one_rule_word words = ap rule_of words
-
-  pub three_rule_words : (verb word rest over : List ℕ) → words_of text ≡ verb ∷ words_of rest → words_of rest ≡ word ∷ words_of over → rule_in text ≡ None
-  unfolding rule_in
-  three_rule_words verb word rest over first second = ap rule_of (first ∙ ap (λ more. verb ∷ more) second) ∙ by (words_of over) (some_part 32 over)
-    where
-      by : (more : List (List ℕ)) → 0 < length more → rule_of (verb ∷ word ∷ more) ≡ None
-      by [] some = absurd (omega arith)
-      by (w ∷ more) some = refl
-
-  pub method_parts : (bean rest : List ℕ) → parts_of text ≡ bean ∷ parts_of rest → parts_of rest ≡ rest ∷ []
-      → method_in text ≡ option_and_then (λ b. option_map (λ m. (b, m)) (name_in rest)) (name_in bean)
-  method_parts bean rest first second = ap two_names (first ∙ ap (λ more. bean ∷ more) second)
-
-  pub one_part : parts_of text ≡ text ∷ [] → method_in text ≡ None
-  one_part parts = ap two_names parts
-
-  pub three_parts : (bean part rest over : List ℕ) → parts_of text ≡ bean ∷ parts_of rest → parts_of rest ≡ part ∷ parts_of over → method_in text ≡ None
-  three_parts bean part rest over first second = ap two_names (first ∙ ap (λ more. bean ∷ more) second) ∙ by (parts_of over) (some_part 46 over)
-    where
-      by : (more : List (List ℕ)) → 0 < length more → two_names (bean ∷ part ∷ more) ≡ None
-      by [] some = absurd (omega arith)
-      by (w ∷ more) some = refl
+pub more_than_two : (c : ℕ) (text first rest second over : List ℕ) → pieces_of c text ≡ first ∷ pieces_of c rest → pieces_of c rest ≡ second ∷ pieces_of c over
+    → length (pieces_of c text) ≢ 2
+more_than_two c text first rest second over begins continues two = omega (arith, ap length begins, ap length continues, two, some_piece c over)
 
 -- ---- what `strip_prefix` says of `~`
 

@@ -9,9 +9,13 @@ use Rattle.stx_names.specs.declared.sentence.Matched.{Matched}
 use Rattle.stx_scenario.specs.Names.{is_name, may_name_class, is_pattern}
 use Rattle.stx_names.specs.Integers.{number_in}
 
+-- the pieces of a text between separators
+abbrev pub pieces_of : ℕ → List ℕ → List (List ℕ)
+pieces_of separator text = slice_split (λ c. c == separator) text
+
 -- the words of a text
 abbrev pub words_of : List ℕ → List (List ℕ)
-words_of text = slice_split (λ c. c == 32) text
+words_of text = pieces_of 32 text
 
 -- ---- what stands for a word
 
@@ -31,7 +35,7 @@ two_names _ = None
 
 -- the parts of a text between dots
 abbrev pub parts_of : List ℕ → List (List ℕ)
-parts_of text = slice_split (λ c. c == 46) text
+parts_of text = pieces_of 46 text
 
 abbrev pub method_in : List ℕ → Option (List ℕ × List ℕ)
 method_in text = two_names (parts_of text)

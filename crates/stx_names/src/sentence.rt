@@ -1,10 +1,10 @@
 // What a statement or a rule says by names, before these are looked up. It takes no memory: names stay where they stand.
-ghost use Rattle.std.specs.Prelude.{◌≡◌, ◌∷◌, [], IfSome, IfNone, Some, None, option_map, option_and_then};
+ghost use Rattle.std.specs.Prelude.{◌≡◌, ◌≢◌, ◌∷◌, [], ◌<◌, length, IfSome, IfNone, Some, None, option_map};
 ghost use Rattle.stx_names.specs.declared.sentence.Matched.{Matched as MatchedData};
 ghost use Rattle.stx_names.specs.declared.sentence.Sentence.{Sentence as SentenceData};
-ghost use Rattle.stx_names.specs.Sentences.{words_of, parts_of, name_in as name_of, class_in as class_of, pattern_in as pattern_of, method_in as method_of, call_of};
+ghost use Rattle.stx_names.specs.Sentences.{pieces_of, name_in as name_of, class_in as class_of, pattern_in as pattern_of, method_in as method_of, call_of};
 ghost use Rattle.stx_names.specs.Sentences.{alone as alone_of, about as about_of, with_value as valued, catching as catching_of, with_catch as caught, sentence_in as sentence_of};
-ghost use Rattle.stx_names.specs.Sentences.{matched_in as matched_of, decision_in as decision_of, rule_with, rule_in as rule_of};
+ghost use Rattle.stx_names.specs.Sentences.{matched_in as matched_of, decision_in as decision_of, rule_in as rule_of};
 
 use crate::names::{is_name, is_pattern, may_name_class, number_in};
 use std::marker::Model;
@@ -71,22 +71,28 @@ pub enum Matched<'a> {
     Pattern(Word<'a>),
 }
 
-// ---- words
+// ---- pieces between separators
 
-/// The first word of a text and what stands after the space, where there is one.
-fn first_word(text: &str) -> Option<(&str, &str)>
-    ensures more { IfSome result (λ cut. words_of text.now ≡ cut.0.now ∷ words_of cut.1.now) }
-    ensures one { IfNone result (words_of text.now ≡ text.now ∷ []) }
+/// The first piece of a text and what stands after the separator, where there is one.
+fn first_piece(text: &str, separator: char) -> Option<(&str, &str)>
+    requires { separator < 128 }
+    ensures more { IfSome result (λ cut. pieces_of separator text.now ≡ cut.0.now ∷ pieces_of separator cut.1.now) }
+    ensures one { IfNone result (pieces_of separator text.now ≡ text.now ∷ []) }
 {
-    text.split_once(' ')
+    text.split_once(separator)
 }
 
-/// The first part of a text and what stands after the dot, where there is one.
-fn first_part(text: &str) -> Option<(&str, &str)>
-    ensures more { IfSome result (λ cut. parts_of text.now ≡ cut.0.now ∷ parts_of cut.1.now) }
-    ensures one { IfNone result (parts_of text.now ≡ text.now ∷ []) }
+/// The pieces of a text that has exactly two.
+fn two_pieces(text: &str, separator: char) -> Option<(&str, &str)>
+    requires { separator < 128 }
+    ensures two { IfSome result (λ pieces. pieces_of separator text.now ≡ pieces.0.now ∷ pieces.1.now ∷ []) }
+    ensures others { IfNone result (length (pieces_of separator text.now) ≢ 2) }
 {
-    text.split_once('.')
+    let (first, rest) = first_piece(text, separator)?;
+    match first_piece(rest, separator) {
+        Some(_) => None,
+        None => Some((first, rest)),
+    }
 }
 
 // ---- statements
@@ -95,16 +101,16 @@ fn first_part(text: &str) -> Option<(&str, &str)>
 pub fn sentence_in(text: &str) -> Option<Sentence<'_>>
     ensures { result ≡ sentence_of text.now }
 {
-    let Some((verb, rest)) = first_word(text) else {
+    let Some((verb, rest)) = first_piece(text, ' ') else {
         return alone(text);
     };
-    let Some((object, rest)) = first_word(rest) else {
+    let Some((object, rest)) = first_piece(rest, ' ') else {
         return about(verb, rest);
     };
-    let Some((word, rest)) = first_word(rest) else {
+    let Some((word, rest)) = first_piece(rest, ' ') else {
         return with_value(verb, object, rest);
     };
-    match first_word(rest) {
+    match first_piece(rest, ' ') {
         Some(_) => None,
         None => with_catch(verb, object, word, rest),
     }
@@ -224,42 +230,18 @@ fn pattern_in(text: &str) -> Option<Word<'_>>
 pub fn method_in(text: &str) -> Option<(Word<'_>, Word<'_>)>
     ensures { result ≡ method_of text.now }
 {
-    let Some((bean, rest)) = first_part(text) else {
-        return None;
-    };
-    match first_part(rest) {
-        Some(_) => None,
-        None => two_names(bean, rest),
-    }
-}
-
-fn two_names<'a>(bean: &'a str, method: &'a str) -> Option<(Word<'a>, Word<'a>)>
-    ensures { result ≡ option_and_then (λ b. option_map (λ m. (b, m)) (name_of method.now)) (name_of bean.now) }
-{
-    let bean = name_in(bean)?;
-    let method = name_in(method)?;
-    Some((bean, method))
+    let (bean, method) = two_pieces(text, '.')?;
+    Some((name_in(bean)?, name_in(method)?))
 }
 
 // ---- rules
 
 /// The rule that a text is.
+#[tactic(auto, unfolding(crate::specs::Sentences::rule_in))]
 pub fn rule_in(text: &str) -> Option<RuleSentence<'_>>
     ensures { result ≡ rule_of text.now }
 {
-    let Some((verb, rest)) = first_word(text) else {
-        return None;
-    };
-    match first_word(rest) {
-        Some(_) => None,
-        None => rule_about(verb, rest),
-    }
-}
-
-/// The rule of a word and the classes that it is about.
-fn rule_about<'a>(verb: &str, object: &'a str) -> Option<RuleSentence<'a>>
-    ensures { result ≡ option_and_then (rule_with object.now) (decision_of verb.now) }
-{
+    let (verb, object) = two_pieces(text, ' ')?;
     let rollback = decision_in(verb)?;
     let by = matched_in(object)?;
     Some(RuleSentence { rollback, by })

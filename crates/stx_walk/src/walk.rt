@@ -5,7 +5,7 @@ ghost use Rattle.stx_walk.specs.declared.schema.Kind.{Kind as KindData};
 ghost use Rattle.stx_refusals.specs.Faults.{refused, entry as path_of_entry};
 ghost use Rattle.stx_walk.specs.inner.Places.{holder_path, place_path as path_of_place};
 ghost use Rattle.stx_walk.specs.Schema.{key_of, leaf_stage as stage_of};
-ghost use Rattle.stx_walk.specs.Walk.{walk, missing, each_item, entry_faults as faults_of_entry, value_faults as faults_of_value, key_faults as faults_of_key, key_text as text_of_key, is_known as known_test, unknown_faults as unknown_of, table_faults as faults_of_table, document_faults as faults_of_document};
+ghost use Rattle.stx_walk.specs.Walk.{walk, missing, each_item, entry_faults as faults_of_entry, value_faults as faults_of_value, key_faults as faults_of_key, key_text as text_of_key, is_known as known_test, table_faults as faults_of_table, document_faults as faults_of_document};
 
 use crate::leaf::{count_stage, leaf_stage, unless};
 use crate::place::{Holder, Place, place_path};
@@ -51,7 +51,16 @@ impl Findings {
         for field in fields {
             self.field_faults(field, holder, table)?;
         }
-        self.unknown_faults(fields, holder, table)
+        for key in table.keys() {
+            let key = key.as_str();
+            let place = Place {
+                holder,
+                key: Some(key_text(key)),
+            };
+            let passed = is_known(fields, key);
+            self.refuse_at(unless(passed, Stage::UnknownKey), place)?;
+        }
+        Ok(())
     }
 
     #[cycle(walk)]
@@ -71,27 +80,6 @@ impl Findings {
             Some(value) => self.value_faults(field.kind, place, value),
             None => self.refuse_at(missing_stage(field.required), place),
         }
-    }
-
-    /// What is refused in the keys that the format doesn't have.
-    fn unknown_faults(
-        &mut self,
-        fields: &[Field],
-        holder: Holder<'_>,
-        table: &Table,
-    ) -> Result<(), NoMemory>
-        ensures { OnOk result (self.new.faults ≡ self.old.faults ++ unknown_of (map key_of fields.now) (holder_path holder.entry) (table_view table.now)) }
-    {
-        for key in table.keys() {
-            let key = key.as_str();
-            let place = Place {
-                holder,
-                key: Some(key_text(key)),
-            };
-            let passed = is_known(fields, key);
-            self.refuse_at(unless(passed, Stage::UnknownKey), place)?;
-        }
-        Ok(())
     }
 
     #[cycle(walk)]

@@ -1,13 +1,12 @@
--- A key that is there or missing, the ends of the loops, and an inner table.
+-- A key that is there or missing, the beginnings and ends of the loops, and an inner table.
 use Rattle.std.proofs.Common.{◌≡◌, ◌∙◌, Some, None, option_map, map, length, ◌++◌, sym, ap}
 use Rattle.toml.specs.Data.{get_member}
 use Rattle.toml.specs.View.{view, table_view}
 use Rattle.toml.proofs.Views.{table_get}
 use Rattle.stx_walk.specs.Schema.{key_of}
-use Rattle.std.specs.List.{flat_map}
 use Rattle.stx_walk.specs.Walk.{walk, key_faults}
 use Rattle.stx_walk.specs.inner.Places.{holder_path, place_path}
-use Rattle.stx_walk.proofs.WalkLaws.{fields_end, key_found, key_missing, table_end, tables_begin, entry_table}
+use Rattle.stx_walk.proofs.WalkLaws.{fields_end, key_found, key_missing, table_end, unknown_names, unknown_by_names, tables_begin, entry_table}
 use Rattle.stx_walk.proofs.walk.Findings.+walk.Goals as goal
 
 pub entry_faults-returns-in-Table : goal.entry_faults-returns-in-Table
@@ -28,14 +27,16 @@ field_faults-returns-in-None t c =
     = sym (table_get c.get.result field.name c.args.table.now.entries c.get.ensures.value) ∙ ap (λ r. option_map (λ x. view x.now) r) c.in-None.is in
     rw (key_missing (holder_path c.args.holder) (table_view c.args.table.now) field none) (rw c.missing_stage.ensures at c.refuse_at.ensures)
 
-pub table_faults-returns : goal.table_faults-returns
-table_faults-returns t c =
+pub table_faults-loop-key-init : goal.table_faults-loop-key-init
+table_faults-loop-key-init t c =
     let fields = c.args.fields.now in
     let path = holder_path c.args.holder in
     let inner = table_view c.args.table.now in
-    let known : c.loop-field.self.faults ≡ c.args.self.now.faults ++ flat_map (key_faults walk path inner) (map key_of fields)
-    = fields_end (key_faults walk path inner) fields c.loop-field.self.faults _ c.loop-field.field-index c.loop-field-test.false c.loop-field.invariant in
-    rw (← table_end (map key_of fields) path inner c.loop-field.self.faults c.args.self.now.faults known) c.unknown_faults.ensures
+    let found = c.loop-field.self.faults in
+    let known = fields_end (key_faults walk path inner) fields found _ c.loop-field.field-index c.loop-field-test.false c.loop-field.invariant in
+    ap (λ names. found ++ unknown_names (map key_of fields) path names) (c.into_iter-key-iterator.ensures.into_iter_gives ∙ c.keys-key-items.ensures.rest)
+    ∙ ap (λ unknown. found ++ unknown) (unknown_by_names (map key_of fields) path c.args.table.now.entries)
+    ∙ table_end (map key_of fields) path inner found c.args.self.now.faults known
 
 pub tables_faults-loop-at-init : goal.tables_faults-loop-at-init
 tables_faults-loop-at-init t c =
