@@ -9,6 +9,11 @@ use Rattle.stx_base.specs.Stores.{Transaction, journal, committed_rows}
 use Rattle.stx_journal.specs.declared.committed.Committed.{Committed}
 use Rattle.stx_journal.specs.declared.replay.RowValue.{RowValue}
 
+-- the commits so far, in order, and how many more there is room for
+pub record JournalView : Type 0 where
+  pub list : List Committed
+  pub spare : ℕ
+
 -- ---- changes
 
 -- a row with this value, or without the row

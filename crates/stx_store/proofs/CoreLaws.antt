@@ -4,7 +4,6 @@ use Rattle.std.specs.Option.{option_map, is_some, IsSome}
 use Rattle.std.specs.FinMap.{get, empty}
 use Rattle.std.proofs.lemmas.Bool.{false≢true, and_parts}
 use Rattle.stx_scenario.specs.declared.numbers.RowNo.{RowNo}
-use Rattle.stx_scenario.specs.Rooms.{Room}
 use Rattle.stx_base.specs.declared.facts.StoreFacts.{StoreFacts}
 use Rattle.stx_base.specs.declared.call.Want.{Want}
 use Rattle.stx_base.specs.declared.history.Access.{Access}
@@ -17,8 +16,7 @@ use Rattle.stx_base.specs.Histories.{store_notes, store_notes_of, has_room}
 use Rattle.stx_base.specs.Stores.{begun, is_live, is_busy, savepoints, can_go_back, is_pointed, work, journal, committed_rows, store_want, store_proper, store_reply}
 use Rattle.stx_base.specs.Legal.{StoreFits}
 use Rattle.stx_base.proofs.StoreLaws.{names, lives, unnamed, begin_number, begun_length-push}
-use Rattle.stx_journal.specs.declared.committed.Committed.{Committed}
-use Rattle.stx_journal.specs.Journal.{committed_in}
+use Rattle.stx_journal.specs.Journal.{JournalView, committed_in}
 use Rattle.stx_locks.specs.declared.table.Ask.{Ask}
 use Rattle.stx_locks.specs.Locks.{LockMap, asked, unless_held_by}
 use Rattle.stx_rows.specs.Rows.{RowsView, dropped, emptied, put_back_last, put_back_all, stack_of, some_stack, HasStack, SameValues}
@@ -41,9 +39,9 @@ alike facts H locks locks' rows rows' keeps same =
     (subst (λ v. Keeps (store_notes H) (λ k. get (committed_rows facts.values H) k) (λ k. get locks' k) v (stack_at rows)) (λ i k. sym (same.same_values k) i)
     (subst (λ l. Keeps (store_notes H) (λ k. get (committed_rows facts.values H) k) l (λ k. get rows.values k) (stack_at rows)) (λ i k. sym (same.same_locks k) i) keeps))
 
-together : (facts : StoreFacts) (H items : List StoreEntry) (e : StoreEntry) (now len capacity count : ℕ) (locks : LockMap) (rows : RowsView) (journal : Room Committed)
+together : (facts : StoreFacts) (H items : List StoreEntry) (e : StoreEntry) (now len capacity count : ℕ) (locks : LockMap) (rows : RowsView) (journal : JournalView)
     → items ≡ H ++ e ∷ [] → KeepsStore facts items now len capacity → count ≡ length (begun (store_notes (H ++ e ∷ []))) → KeepsRows facts (H ++ e ∷ []) locks rows
-    → journal.items ≡ committed_in facts.values (H ++ e ∷ []) → now ≤ journal.spare → KeepsAll facts items now len capacity count locks rows journal
+    → journal.list ≡ committed_in facts.values (H ++ e ∷ []) → now ≤ journal.spare → KeepsAll facts items now len capacity count locks rows journal
 together facts H items e now len capacity count locks rows journal is entries count_is rows_are journal_is room = record {
   entries = entries;
   state = subst (λ es. KeepsState facts es now count locks rows journal) (sym is) (record { count_is = count_is; rows_are = rows_are; journal_is = journal_is; room = room });
@@ -57,7 +55,7 @@ release_parts : (own : List StoreNote) (t : ℕ) → IsTrue (store_proper own (W
 unfolding store_proper
 release_parts own t proper = (and_parts (is_live own t) _ (and_parts (has_room own) _ proper).1).1
 
-module _ (facts : StoreFacts) (H : List StoreEntry) (owed len capacity count : ℕ) (locks : LockMap) (rows : RowsView) (journal' : Room Committed) (keeps : KeepsAll facts H owed len capacity count locks rows journal') where
+module _ (facts : StoreFacts) (H : List StoreEntry) (owed len capacity count : ℕ) (locks : LockMap) (rows : RowsView) (journal' : JournalView) (keeps : KeepsAll facts H owed len capacity count locks rows journal') where
   owned : Owns H
   owned = owns most_clients facts H keeps.entries.legal
 
@@ -77,12 +75,12 @@ module _ (facts : StoreFacts) (H : List StoreEntry) (owed len capacity count : �
       same : (a b m : ℕ) → b ≡ a + m → m ≡ 0 → a ≡ b
       same a b m is none = omega arith
 
-  unlisted : (e : StoreEntry) (now : Room Committed) → StoreFits most_clients facts H e → commits H e ≡ [] → now.items ≡ journal'.items → now.items ≡ committed_in facts.values (H ++ e ∷ [])
+  unlisted : (e : StoreEntry) (now : JournalView) → StoreFits most_clients facts H e → commits H e ≡ [] → now.list ≡ journal'.list → now.list ≡ committed_in facts.values (H ++ e ∷ [])
   unlisted e now fits none same = same ∙ keeps.state.journal_is ∙ sym (committed_in-same facts.values H e (apart e fits) none)
 
-  pub core-begun : (c u : ℕ) → StoreFits most_clients facts H (entry c (StoreNote.Begin u)) → (items : List StoreEntry) (now len' capacity' count' : ℕ) (rows' : RowsView) (jn : Room Committed)
+  pub core-begun : (c u : ℕ) → StoreFits most_clients facts H (entry c (StoreNote.Begin u)) → (items : List StoreEntry) (now len' capacity' count' : ℕ) (rows' : RowsView) (jn : JournalView)
       → items ≡ H ++ entry c (StoreNote.Begin u) ∷ [] → now ≡ owed + 1 → len' + now ≤ capacity' → count' ≡ count + 1
-      → SameValues rows rows' → HasStack rows u (Some (empty ∷ [])) rows' → jn.items ≡ journal'.items → now ≤ jn.spare → KeepsAll facts items now len' capacity' count' locks rows' jn
+      → SameValues rows rows' → HasStack rows u (Some (empty ∷ [])) rows' → jn.list ≡ journal'.list → now ≤ jn.spare → KeepsAll facts items now len' capacity' count' locks rows' jn
   core-begun c u fits items now len' capacity' count' rows' jn is now_is room count_is values stack list spare =
       let e = entry c (StoreNote.Begin u) in
       let number : u ≡ length (begun (store_notes H)) + 1 = begin_number facts H u fits.reply in
@@ -93,8 +91,8 @@ module _ (facts : StoreFacts) (H : List StoreEntry) (owed len capacity count : �
       (rows-begun facts H locks rows keeps.state.rows_are c u locks rows' (apart e fits) (unnamed most_clients facts H keeps.entries.legal u (omega arith)) (λ k. refl) values stack)
       (unlisted e jn fits refl list) spare
 
-  pub core-accessed : (c t : ℕ) (a : Access) (r : Answer) → StoreFits most_clients facts H (entry c (StoreNote.Access t a r)) → (items : List StoreEntry) (now len' capacity' : ℕ) (locks' : LockMap) (rows' : RowsView) (jn : Room Committed)
-      → items ≡ H ++ entry c (StoreNote.Access t a r) ∷ [] → now ≡ owed + 0 → len' + now ≤ capacity' → IsAnswered a t r locks locks' rows rows' → jn.items ≡ journal'.items → now ≤ jn.spare
+  pub core-accessed : (c t : ℕ) (a : Access) (r : Answer) → StoreFits most_clients facts H (entry c (StoreNote.Access t a r)) → (items : List StoreEntry) (now len' capacity' : ℕ) (locks' : LockMap) (rows' : RowsView) (jn : JournalView)
+      → items ≡ H ++ entry c (StoreNote.Access t a r) ∷ [] → now ≡ owed + 0 → len' + now ≤ capacity' → IsAnswered a t r locks locks' rows rows' → jn.list ≡ journal'.list → now ≤ jn.spare
       → KeepsAll facts items now len' capacity' count locks' rows' jn
   core-accessed c t a r fits items now len' capacity' locks' rows' jn is now_is room answered list spare =
       let e = entry c (StoreNote.Access t a r) in
@@ -115,9 +113,9 @@ module _ (facts : StoreFacts) (H : List StoreEntry) (owed len capacity count : �
           (alive c t (StoreNote.Access t a r) fits (eq-eqb t t refl) refl) free
           (granted facts H locks rows keeps.state.rows_are t a (free_ask (asked (get locks (row_of a)) t) (found_at (get rows.values (row_of a)) a) answered.answer_is free)) answered.locks_are (answered.made free)
 
-  pub core-pointed : (c t : ℕ) → StoreFits most_clients facts H (entry c (StoreNote.Point t)) → (items : List StoreEntry) (now len' capacity' : ℕ) (rows' : RowsView) (jn : Room Committed)
+  pub core-pointed : (c t : ℕ) → StoreFits most_clients facts H (entry c (StoreNote.Point t)) → (items : List StoreEntry) (now len' capacity' : ℕ) (rows' : RowsView) (jn : JournalView)
       → items ≡ H ++ entry c (StoreNote.Point t) ∷ [] → now ≡ owed + 2 → len' + now ≤ capacity' → SameValues rows rows' → HasStack rows t (option_map (λ stack. empty ∷ stack) (get rows.older t)) rows'
-      → jn.items ≡ journal'.items → now ≤ jn.spare → KeepsAll facts items now len' capacity' count locks rows' jn
+      → jn.list ≡ journal'.list → now ≤ jn.spare → KeepsAll facts items now len' capacity' count locks rows' jn
   core-pointed c t fits items now len' capacity' rows' jn is now_is room values stack list spare =
       let e = entry c (StoreNote.Point t) in
       together facts H items e now len' capacity' count locks rows' jn is
@@ -169,13 +167,13 @@ module _ (facts : StoreFacts) (H : List StoreEntry) (owed len capacity count : �
       (rows-undone facts H locks rows keeps.state.rows_are c t locks' rows' (apart e fits) (alive c t (StoreNote.Rollback t) fits (eq-eqb t t refl) refl) freed values stack)
 
   -- the number of the next commit
-  pub next-number : length journal'.items ≡ length (journal H)
+  pub next-number : length journal'.list ≡ length (journal H)
   next-number = ap length keeps.state.journal_is ∙ committed_in-length facts.values H
 
-  pub core-committed : (c t m : ℕ) (changes : List (RowNo × Option ℤ)) → StoreFits most_clients facts H (entry c (StoreNote.Commit t m)) → (items : List StoreEntry) (now len' capacity' : ℕ) (locks' : LockMap) (rows' : RowsView) (jn : Room Committed)
+  pub core-committed : (c t m : ℕ) (changes : List (RowNo × Option ℤ)) → StoreFits most_clients facts H (entry c (StoreNote.Commit t m)) → (items : List StoreEntry) (now len' capacity' : ℕ) (locks' : LockMap) (rows' : RowsView) (jn : JournalView)
       → items ≡ H ++ entry c (StoreNote.Commit t m) ∷ [] → now ≡ owed - 1 → len' ≡ len + 1 → capacity' ≡ capacity → ((k : ℕ) → get locks' k ≡ unless_held_by t (get locks k))
-      → SameValues rows rows' → HasStack rows t None rows' → m ≡ length journal'.items + 1 → changes ≡ net (put_back_all rows.values (stack_of rows t)) rows.values
-      → jn.items ≡ journal'.items ++ record { number = m; client = c; tx = Some t; changes = changes } ∷ [] → journal'.spare ≡ jn.spare + 1 → KeepsAll facts items now len' capacity' count locks' rows' jn
+      → SameValues rows rows' → HasStack rows t None rows' → m ≡ length journal'.list + 1 → changes ≡ net (put_back_all rows.values (stack_of rows t)) rows.values
+      → jn.list ≡ journal'.list ++ record { number = m; client = c; tx = Some t; changes = changes } ∷ [] → journal'.spare ≤ jn.spare + 1 → KeepsAll facts items now len' capacity' count locks' rows' jn
   core-committed c t m changes fits items now len' capacity' locks' rows' jn is paid longer same freed values stack number changes_are list spare =
       let e = entry c (StoreNote.Commit t m) in
       let live = alive c t (StoreNote.Commit t m) fits (eq-eqb t t refl) refl in
@@ -187,8 +185,8 @@ module _ (facts : StoreFacts) (H : List StoreEntry) (owed len capacity count : �
       ∙ sym (committed_in-push facts.values H e (record { client = c; tx = Some t; work = work (store_notes H) t }) (apart e fits) refl))
       (let room = keeps.state.room in omega (arith, paid))
 
-  pub core-auto_busy : (c : ℕ) (a : Access) (r : Answer) → StoreFits most_clients facts H (entry c (StoreNote.Auto a r)) → is_busy r ≡ true → (items : List StoreEntry) (now len' capacity' : ℕ) (jn : Room Committed)
-      → items ≡ H ++ entry c (StoreNote.Auto a r) ∷ [] → now ≡ owed + 0 → len' + now ≤ capacity' → jn.items ≡ journal'.items → now ≤ jn.spare → KeepsAll facts items now len' capacity' count locks rows jn
+  pub core-auto_busy : (c : ℕ) (a : Access) (r : Answer) → StoreFits most_clients facts H (entry c (StoreNote.Auto a r)) → is_busy r ≡ true → (items : List StoreEntry) (now len' capacity' : ℕ) (jn : JournalView)
+      → items ≡ H ++ entry c (StoreNote.Auto a r) ∷ [] → now ≡ owed + 0 → len' + now ≤ capacity' → jn.list ≡ journal'.list → now ≤ jn.spare → KeepsAll facts items now len' capacity' count locks rows jn
   core-auto_busy c a r fits busy items now len' capacity' jn is now_is room list spare =
       let e = entry c (StoreNote.Auto a r) in
       together facts H items e now len' capacity' count locks rows jn is
@@ -197,10 +195,10 @@ module _ (facts : StoreFacts) (H : List StoreEntry) (owed len capacity count : �
       (unlisted e jn fits (commits-none facts H locks rows keeps.state.rows_are c a r busy) list) spare
 
   pub core-auto : (c : ℕ) (a : Access) (r : Answer) (m : ℕ) (changes : List (RowNo × Option ℤ)) → StoreFits most_clients facts H (entry c (StoreNote.Auto a r)) → is_busy r ≡ false → get locks (row_of a) ≡ None
-      → (items : List StoreEntry) (now len' capacity' : ℕ) (rows' : RowsView) (jn : Room Committed)
+      → (items : List StoreEntry) (now len' capacity' : ℕ) (rows' : RowsView) (jn : JournalView)
       → items ≡ H ++ entry c (StoreNote.Auto a r) ∷ [] → now ≡ owed + 0 → len' + now ≤ capacity'
-      → ((k : ℕ) → get rows'.values k ≡ cell_applied k (get rows.values k) a) → SameOlder rows rows' → m ≡ length journal'.items + 1 → changes ≡ changes_of (get rows.values (row_of a)) a
-      → jn.items ≡ journal'.items ++ record { number = m; client = c; tx = None; changes = changes } ∷ [] → now ≤ jn.spare → KeepsAll facts items now len' capacity' count locks rows' jn
+      → ((k : ℕ) → get rows'.values k ≡ cell_applied k (get rows.values k) a) → SameOlder rows rows' → m ≡ length journal'.list + 1 → changes ≡ changes_of (get rows.values (row_of a)) a
+      → jn.list ≡ journal'.list ++ record { number = m; client = c; tx = None; changes = changes } ∷ [] → now ≤ jn.spare → KeepsAll facts items now len' capacity' count locks rows' jn
   core-auto c a r m changes fits free unlocked items now len' capacity' rows' jn is now_is room values older number changes_are list spare =
       let e = entry c (StoreNote.Auto a r) in
       together facts H items e now len' capacity' count locks rows' jn is
@@ -243,7 +241,7 @@ module _ (facts : StoreFacts) (H : List StoreEntry) (owed len capacity count : �
   pub fits-rollback : (c t : ℕ) → c < most_clients → IsTrue (store_proper (store_notes_of H c) (Want.Rollback t)) → StoreFits most_clients facts H (entry c (StoreNote.Rollback t))
   fits-rollback c t below proper = fit c (StoreNote.Rollback t) below proper (rollback-reply facts H t)
 
-  pub fits-commit : (c t m : ℕ) → c < most_clients → IsTrue (store_proper (store_notes_of H c) (Want.Commit t)) → m ≡ length journal'.items + 1 → StoreFits most_clients facts H (entry c (StoreNote.Commit t m))
+  pub fits-commit : (c t m : ℕ) → c < most_clients → IsTrue (store_proper (store_notes_of H c) (Want.Commit t)) → m ≡ length journal'.list + 1 → StoreFits most_clients facts H (entry c (StoreNote.Commit t m))
   fits-commit c t m below proper is = fit c (StoreNote.Commit t m) below proper (commit-reply facts H t m (is ∙ ap (λ n. n + 1) next-number))
 
   pub fits-auto_busy : (c : ℕ) (a : Access) (h : ℕ) → c < most_clients → IsTrue (store_proper (store_notes_of H c) (Want.Auto a)) → get locks (row_of a) ≡ Some h → StoreFits most_clients facts H (entry c (StoreNote.Auto a (Answer.Busy h)))
@@ -267,8 +265,8 @@ found-free value (Access.Write row v) = refl
 found-free value (Access.Erase row) = refl
 
 -- what is kept where locks and rows answer alike, and there is more room
-pub core-same : (facts : StoreFacts) (H items : List StoreEntry) (owed len len' capacity capacity' count : ℕ) (locks locks' : LockMap) (rows rows' : RowsView) (journal jn : Room Committed)
-    → KeepsAll facts H owed len capacity count locks rows journal → IsSame locks locks' rows rows' → items ≡ H → len' ≡ len → capacity ≤ capacity' → jn.items ≡ journal.items → journal.spare ≤ jn.spare
+pub core-same : (facts : StoreFacts) (H items : List StoreEntry) (owed len len' capacity capacity' count : ℕ) (locks locks' : LockMap) (rows rows' : RowsView) (journal jn : JournalView)
+    → KeepsAll facts H owed len capacity count locks rows journal → IsSame locks locks' rows rows' → items ≡ H → len' ≡ len → capacity ≤ capacity' → jn.list ≡ journal.list → journal.spare ≤ jn.spare
     → KeepsAll facts items owed len' capacity' count locks' rows' jn
 core-same facts H items owed len len' capacity capacity' count locks locks' rows rows' journal jn keeps same is len_is more list spare =
     subst (λ es. KeepsAll facts es owed len' capacity' count locks' rows' jn) (sym is) (record {
@@ -293,8 +291,8 @@ replies facts H items old c n is fits grown = record {
 }
 
 -- a store on which no call was made
-pub core-new : (facts : StoreFacts) (items : List StoreEntry) (len capacity : ℕ) (locks : LockMap) (rows : RowsView) (jn : Room Committed) → items ≡ [] → KeepsStore facts items 0 len capacity
-    → ((k : ℕ) → get locks k ≡ None) → ((k : ℕ) → get rows.values k ≡ get (first_rows facts.values) k) → jn.items ≡ [] → KeepsAll facts items 0 len capacity 0 locks rows jn
+pub core-new : (facts : StoreFacts) (items : List StoreEntry) (len capacity : ℕ) (locks : LockMap) (rows : RowsView) (jn : JournalView) → items ≡ [] → KeepsStore facts items 0 len capacity
+    → ((k : ℕ) → get locks k ≡ None) → ((k : ℕ) → get rows.values k ≡ get (first_rows facts.values) k) → jn.list ≡ [] → KeepsAll facts items 0 len capacity 0 locks rows jn
 core-new facts items len capacity locks rows jn is entries free values list = record {
   entries = entries;
   state = subst (λ es. KeepsState facts es 0 0 locks rows jn) (sym is) (record {

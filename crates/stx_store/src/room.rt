@@ -2,20 +2,20 @@
 ghost use Rattle.std.specs.Prelude.{◌≡◌, ◌+◌, ◌-◌, ◌++◌, ◌∷◌, [], ◌<◌, ◌≤◌, IfOk, OnErr, vec_len, vec_capacity};
 
 use stx_base::{StoreEntry, StoreNote};
-use stx_journal::Committed;
-use stx_scenario::{NoMemory, Roomy};
+use stx_journal::Journal;
+use stx_scenario::NoMemory;
 
 /// Makes room for one entry, which may commit, and for `more` entries than were owed, whose number it gives.
 pub(crate) fn room_for(
     entries: &mut Vec<StoreEntry>,
-    journal: &mut Roomy<Committed>,
+    journal: &mut Journal,
     owed: usize,
     more: usize,
 ) -> Result<usize, NoMemory>
     ensures same { entries.new.items ≡ entries.old.items }
     ensures len { vec_len entries.new ≡ vec_len entries.old }
     ensures capacity { vec_capacity entries.old ≤ vec_capacity entries.new }
-    ensures list { journal.new.items ≡ journal.old.items }
+    ensures list { journal.new.list ≡ journal.old.list }
     ensures spare { journal.old.spare ≤ journal.new.spare }
     ensures ok { IfOk result (λ now. (now ≡ owed + more) × (vec_len entries.new + now + 1 ≤ vec_capacity entries.new) × (now + 1 ≤ journal.new.spare)) }
 {

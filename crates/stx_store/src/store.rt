@@ -15,10 +15,10 @@ use std::marker::Model;
 use stx_base::{
     Access, Answer, Session, StoreAnswer, StoreCall, StoreEntry, StoreFacts, StoreNote, Want,
 };
-use stx_journal::Committed;
+use stx_journal::{Committed, Journal};
 use stx_locks::LockTable;
 use stx_rows::Rows;
-use stx_scenario::{List, NoMemory, Roomy};
+use stx_scenario::{List, NoMemory};
 
 /// A store of rows, seen as what it is made with and the entries of all calls so far.
 ///
@@ -35,8 +35,7 @@ pub struct StoreCore {
     begun: u32,
     locks: LockTable,
     rows: Rows,
-    /// The commits so far, in order.
-    journal: Roomy<Committed>,
+    journal: Journal,
 }
 
 impl Model for StoreCore {
@@ -67,7 +66,7 @@ impl StoreCore {
             begun: 0,
             locks: LockTable::new(alloc),
             rows,
-            journal: Roomy::new(alloc),
+            journal: Journal::new(alloc),
         })
     }
 
@@ -162,10 +161,10 @@ impl StoreCore {
     {
         let tx = session.number();
         session.retire();
-        let number = self.journal.as_slice().len() as u64 + 1;
+        let number = self.journal.list().len() as u64 + 1;
         let changes = self.rows.changes(tx);
         self.locks.end(tx);
-        self.journal.push(Committed {
+        self.journal.append(Committed {
             number,
             client,
             tx: Some(tx),
@@ -210,8 +209,8 @@ impl StoreCore {
         }
         let answer = answer_at(access, self.rows.read(row));
         let changes = put(&mut self.rows, alloc, access)?;
-        let number = self.journal.as_slice().len() as u64 + 1;
-        self.journal.push(Committed {
+        let number = self.journal.list().len() as u64 + 1;
+        self.journal.append(Committed {
             number,
             client,
             tx: None,
@@ -293,13 +292,13 @@ impl StoreCore {
     pub fn committed(&self) -> &[Committed]
         ensures { result.now ≡ committed_in self.now.facts.values self.now.entries }
     {
-        self.journal.as_slice()
+        self.journal.list()
     }
 
     /// The last commit, with what it changed.
     pub fn last_committed(&self) -> Option<&Committed>
         ensures { option_copied result ≡ last_committed self.now }
     {
-        self.journal.as_slice().last()
+        self.journal.last()
     }
 }

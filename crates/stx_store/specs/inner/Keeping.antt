@@ -11,13 +11,11 @@ use Rattle.stx_base.specs.declared.history.StoreEntry.{StoreEntry}
 use Rattle.stx_base.specs.Alone.{row_of}
 use Rattle.stx_base.specs.Histories.{store_notes}
 use Rattle.stx_base.specs.Stores.{begun, is_busy, is_live, takes, savepoints, work, committed_rows}
-use Rattle.stx_journal.specs.declared.committed.Committed.{Committed}
-use Rattle.stx_journal.specs.Journal.{committed_in}
+use Rattle.stx_journal.specs.Journal.{JournalView, committed_in}
 use Rattle.stx_locks.specs.declared.table.Ask.{Ask}
 use Rattle.stx_locks.specs.Locks.{LockMap, asked, after_asked}
 use Rattle.stx_rows.specs.Rows.{OlderMap, RowsView, kept_last, change_to, stack_of, HasStack}
 use Rattle.stx_scenario.specs.declared.numbers.RowNo.{RowNo}
-use Rattle.stx_scenario.specs.Rooms.{Room}
 use Rattle.stx_store.specs.inner.Owed.{KeepsStore}
 use Rattle.stx_store.specs.inner.Cells.{Cell, cell_applied, cell_worked, found_at}
 
@@ -61,10 +59,10 @@ KeepsRows facts history locks rows =
     Keeps (store_notes history) (λ k. get (committed_rows facts.values history) k) (λ k. get locks k) (λ k. get rows.values k) (stack_at rows)
 
 -- and so many were begun, and the journal is the history's, with room for the ends that are owed
-pub record KeepsState (facts : StoreFacts) (history : List StoreEntry) (owed count : ℕ) (locks : LockMap) (rows : RowsView) (journal : Room Committed) : Type 0 where
+pub record KeepsState (facts : StoreFacts) (history : List StoreEntry) (owed count : ℕ) (locks : LockMap) (rows : RowsView) (journal : JournalView) : Type 0 where
   pub count_is : count ≡ length (begun (store_notes history))
   pub rows_are : KeepsRows facts history locks rows
-  pub journal_is : journal.items ≡ committed_in facts.values history
+  pub journal_is : journal.list ≡ committed_in facts.values history
   pub room : owed ≤ journal.spare
 
 -- ---- what the calls of a transaction do to locks and rows
@@ -110,6 +108,6 @@ changes_of before (Access.Erase row) = change_to before row None
 -- ---- the whole
 
 -- the entries are legal and have room, and what is kept beside them is what they say
-pub record KeepsAll (facts : StoreFacts) (history : List StoreEntry) (owed len capacity count : ℕ) (locks : LockMap) (rows : RowsView) (journal : Room Committed) : Type 0 where
+pub record KeepsAll (facts : StoreFacts) (history : List StoreEntry) (owed len capacity count : ℕ) (locks : LockMap) (rows : RowsView) (journal : JournalView) : Type 0 where
   pub entries : KeepsStore facts history owed len capacity
   pub state : KeepsState facts history owed count locks rows journal

@@ -25,12 +25,12 @@ returns-in-Some-clause-ok c =
 pub invariant_of-self-2 : goal.invariant_of-self-2
 invariant_of-self-2 c =
     let ok = c.in_ok-self-inside.ensures.ok in
-    core-auto c.self.inside.facts c.self.inside.entries.items c.self.inside.owed _ _ c.self.inside.begun c.self.inside.locks c.self.inside.rows c.self.inside.journal c.self.invariant c.args.client c.args.access c.answer_at-answer.result (length c.as_slice.result.now + 1) c.in_ok-changes.changes (fits-auto c.self.inside.facts c.self.inside.entries.items c.self.inside.owed _ _ c.self.inside.begun c.self.inside.locks c.self.inside.rows c.self.inside.journal c.self.invariant c.args.client c.args.access c.answer_at-answer.result c.requires.client (proper_in c.self.inside.facts c.self.inside.entries.items _ c.args.client (Want.Auto c.args.access) c.self.view_is c.requires.proper) (ap (get c.self.inside.locks) (sym c.row_named-row.ensures) ∙ sym c.in_default.ensures) (c.answer_at-answer.ensures ∙ ap (λ v. found_at v c.args.access) (c.read.ensures ∙ ap (get c.self.inside.rows.values) c.row_named-row.ensures)))
+    core-auto c.self.inside.facts c.self.inside.entries.items c.self.inside.owed _ _ c.self.inside.begun c.self.inside.locks c.self.inside.rows c.self.inside.journal c.self.invariant c.args.client c.args.access c.answer_at-answer.result (length c.list.result.now + 1) c.in_ok-changes.changes (fits-auto c.self.inside.facts c.self.inside.entries.items c.self.inside.owed _ _ c.self.inside.begun c.self.inside.locks c.self.inside.rows c.self.inside.journal c.self.invariant c.args.client c.args.access c.answer_at-answer.result c.requires.client (proper_in c.self.inside.facts c.self.inside.entries.items _ c.args.client (Want.Auto c.args.access) c.self.view_is c.requires.proper) (ap (get c.self.inside.locks) (sym c.row_named-row.ensures) ∙ sym c.in_default.ensures) (c.answer_at-answer.ensures ∙ ap (λ v. found_at v c.args.access) (c.read.ensures ∙ ap (get c.self.inside.rows.values) c.row_named-row.ensures)))
     (ap is_busy (c.answer_at-answer.ensures ∙ ap (λ v. found_at v c.args.access) (c.read.ensures ∙ ap (get c.self.inside.rows.values) c.row_named-row.ensures)) ∙ found-free (get c.self.inside.rows.values (row_of c.args.access)) c.args.access) (ap (get c.self.inside.locks) (sym c.row_named-row.ensures) ∙ sym c.in_default.ensures)
-    _ c.in_ok-self-inside.field-0 _ _ c.put.new.rows c.push.new.self
+    _ c.in_ok-self-inside.field-0 _ _ c.put.new.rows c.append.new.self
     (c.push_reserved-2.ensures.items ∙ ap (λ es. es ++ entry c.args.client (StoreNote.Auto c.args.access c.answer_at-answer.result) ∷ []) c.room_for.ensures.same) ok.0 (omega (arith, ok.1, c.push_reserved-2.ensures.len, c.push_reserved-2.ensures.capacity)) c.in_ok-changes.ensures.values c.put.ensures.older
-    (ap (λ l. length l + 1) (c.as_slice.ensures ∙ c.room_for.ensures.list)) c.in_ok-changes.ensures.changes
-    (c.push.ensures.items ∙ ap (λ l. l ++ record { number = (length c.as_slice.result.now + 1); client = c.args.client; tx = None; changes = c.in_ok-changes.changes } ∷ []) c.room_for.ensures.list) (omega (arith, ok.2, c.push.ensures.room))
+    (ap (λ l. length l + 1) (c.list.ensures ∙ c.room_for.ensures.list)) c.in_ok-changes.ensures.changes
+    (c.append.ensures.list ∙ ap (λ l. l ++ record { number = (length c.list.result.now + 1); client = c.args.client; tx = None; changes = c.in_ok-changes.changes } ∷ []) c.room_for.ensures.list) (omega (arith, ok.2, c.append.ensures.spare))
 
 pub returns-clause-ok : goal.returns-clause-ok
 returns-clause-ok c =
