@@ -1,13 +1,16 @@
 // The tool, over any source and any sink.
-ghost use Rattle.std.specs.Prelude.{◌≡◌};
-ghost use Rattle.springtx.specs.Tool.{IsDone, IsEnd, IsResponded};
+ghost use Rattle.std.specs.Prelude.{◌≡◌, IfOk};
+ghost use Rattle.stx_judge.specs.Judge.{IsValid};
+ghost use Rattle.stx_tool.specs.Programs.{IsDone, IsEnd};
+ghost use Rattle.springtx.specs.Tool.{Tells, jobs};
 
-use crate::answer::{answer_to, needs_input};
+use crate::answer::told;
 use std::alloc::Global;
 use stx_base::ToolEnd;
 use stx_outside::{Sink, Source};
-use stx_tool::{Early, Response, read_input, write_response};
-use stx_words::read_words;
+use stx_scenario::Scenario;
+use stx_tool::{Program, top_call};
+use stx_words::{Job, Load, WordsFault, read_words};
 
 /// Does the job that the words state, with the scenario that a source holds or one that is generated, and writes its text to
 /// a sink. It waits for nobody.
@@ -20,23 +23,39 @@ pub fn tool<S: Source, K: Sink>(
     sink: &mut K,
 ) -> ToolEnd
     // 0: the job was done.
-    ensures done { result.status ≡ 0 → IsDone words.now (S.left source.old) (S.left source.new)
+    ensures done { result.status ≡ 0 → IsDone jobs words.now (S.left source.old) (S.left source.new)
         (K.taken sink.old) (K.taken sink.new) result.report }
 
     // The causes of all other statuses, what was read and what was written: the clauses that all top calls have.
-    ensures ends { IsEnd words.now (source.new ≡ source.old)
+    ensures ends { IsEnd jobs words.now (source.new ≡ source.old)
         (S.left source.old) (S.left source.new) (S.faults source.old) (S.faults source.new)
         (K.taken sink.old) (K.taken sink.new) (K.faults sink.old) (K.faults sink.new) result }
 {
-    write_response(sink, respond(alloc, words, source))
+    let tell = |job: Job, scenario: Scenario|
+        requires { IsValid scenario }
+        ensures { IfOk result (λ told. Tells job scenario told.0 told.1.items) }
+    {
+        told(alloc, job, scenario)
+    };
+    top_call::<Springtx, S, K, _>(alloc, words, source, sink, tell)
 }
 
-/// Reads the words and the input and does the job, before anything is written.
-fn respond<S: Source>(alloc: Global, words: &[String], source: &mut S) -> Result<Response, Early>
-    ensures { IsResponded words.now (source.new ≡ source.old)
-        (S.left source.old) (S.left source.new) (S.faults source.old) (S.faults source.new) result }
-{
-    let job = read_words(alloc, words)?;
-    let bytes = read_input(alloc, source, needs_input(job))?;
-    Ok(answer_to(alloc, job, &bytes)?)
+/// The program, by its jobs.
+struct Springtx;
+
+impl Program for Springtx {
+    type Job = Job;
+
+    ghost jobs = { jobs };
+
+    fn stated(alloc: Global, words: &[String]) -> Result<Job, WordsFault> {
+        read_words(alloc, words)
+    }
+
+    fn load_of(job: Job) -> Option<Load> {
+        match job {
+            Job::Load { seed, clients } => Some(Load { seed, clients }),
+            Job::Play | Job::Check | Job::Rules => None,
+        }
+    }
 }

@@ -1,64 +1,40 @@
-// The text that answers a job and its input, made whole before anything is written.
+// What a job reports and tells of its scenario, made whole before anything is written.
 ghost use Rattle.std.specs.Prelude.{◌≡◌, IfOk};
 ghost use Rattle.stx_model.specs.Faithful.{Faithful};
 ghost use Rattle.stx_judge.specs.Judge.{IsValid};
-ghost use Rattle.stx_words.specs.Jobs.{RunHasClients};
-ghost use Rattle.springtx_run.specs.RunTool.{IsReadingFor, IsResponse, needs_input as job_needs_input, text_of};
+ghost use Rattle.springtx_run.specs.RunTool.{Tells, text_of as text_in};
 
 use std::alloc::Global;
 use std::sync::Wait;
 use std::thread::Threads;
 use stx_base::Report;
 use stx_client::Setup;
-use stx_load::generated;
 use stx_report::{print, summary};
 use stx_runner::{Gate, run};
 use stx_scenario::{NoMemory, Scenario};
-use stx_tool::{Reading, Response, read};
+use stx_tool::Told;
 use stx_words::RunJob;
 
-/// Whether a job reads a scenario, and generates none.
-pub fn needs_input(job: RunJob) -> bool
-    ensures { result ≡ job_needs_input job }
-{
-    !matches!(job, RunJob::Load { .. })
-}
-
-/// Reads or generates a scenario and does the job with it, or says why not.
+/// What a job reports and tells of its scenario.
 #[tactic(auto, using(crate::proofs::RunToolLaws::is_run))]
-pub fn answer_to<R: Threads + Wait + Sync, G: Gate>(
+pub fn told<R: Threads + Wait + Sync, G: Gate>(
     rt: &R,
     alloc: Global,
     job: RunJob,
-    bytes: &[u8],
+    scenario: Scenario,
     gate: &G,
-) -> Result<Response, NoMemory>
-    requires { RunHasClients job }
-    ensures { IfOk result (λ response. IsResponse job bytes.now response) }
+) -> Result<Told, NoMemory>
+    requires { IsValid scenario }
+    ensures { IfOk result (λ told. Tells job scenario told.0 told.1.items) }
 {
-    let scenario = match scenario_for(alloc, job, bytes)? {
-        Reading::Accepted(scenario) => scenario,
-        Reading::Refused(text) => return Ok(Response::Refused(text)),
-    };
     let report = ran(rt, alloc, scenario, gate)?;
-    let text = told(alloc, job, &report)?;
-    Ok(Response::Done(Some(report), text))
+    let text = text_of(alloc, job, &report)?;
+    Ok((Some(report), text))
 }
 
-/// The scenario that a job is done with, if the job isn't refused: it is read or generated.
-fn scenario_for(alloc: Global, job: RunJob, bytes: &[u8]) -> Result<Reading, NoMemory>
-    requires { RunHasClients job }
-    ensures { IfOk result (λ reading. IsReadingFor job bytes.now reading) }
-{
-    match job {
-        RunJob::Run => read(alloc, bytes),
-        RunJob::Load { seed, clients } => Ok(Reading::Accepted(generated(alloc, seed, clients)?)),
-    }
-}
-
-/// What a job tells of a run.
-fn told(alloc: Global, job: RunJob, report: &Report) -> Result<Vec<u8>, NoMemory>
-    ensures { IfOk result (λ text. text.items ≡ text_of job report.now.scenario report.now.outcome) }
+/// The text of a run.
+fn text_of(alloc: Global, job: RunJob, report: &Report) -> Result<Vec<u8>, NoMemory>
+    ensures { IfOk result (λ text. text.items ≡ text_in job report.now.scenario report.now.outcome) }
 {
     match job {
         RunJob::Run => print(alloc, &report.scenario, &report.outcome),

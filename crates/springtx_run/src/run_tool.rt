@@ -1,16 +1,19 @@
 // The tool that runs clients on threads, over any source, any sink and any gate.
-ghost use Rattle.std.specs.Prelude.{◌≡◌};
-ghost use Rattle.springtx_run.specs.RunTool.{IsDone, IsEnd, IsResponded};
+ghost use Rattle.std.specs.Prelude.{◌≡◌, IfOk};
+ghost use Rattle.stx_judge.specs.Judge.{IsValid};
+ghost use Rattle.stx_tool.specs.Programs.{IsDone, IsEnd};
+ghost use Rattle.springtx_run.specs.RunTool.{Tells, jobs};
 
-use crate::answer::{answer_to, needs_input};
+use crate::answer::told;
 use std::alloc::Global;
 use std::sync::Wait;
 use std::thread::Threads;
 use stx_base::ToolEnd;
 use stx_outside::{Sink, Source};
 use stx_runner::Gate;
-use stx_tool::{Early, Response, read_input, write_response};
-use stx_words::read_run_words;
+use stx_scenario::Scenario;
+use stx_tool::{Program, top_call};
+use stx_words::{Load, RunJob, WordsFault, read_run_words};
 
 /// Does the job that the words state, with the scenario that a source holds or one that is generated, and writes its text to
 /// a sink. The clients run side by side, each on a thread of its own, and `gate` is asked before and after each of their
@@ -27,29 +30,39 @@ pub fn run_tool<R: Threads + Wait + Sync, S: Source, K: Sink, G: Gate>(
 ) -> ToolEnd
     // 0: the scenario of all bytes, or the generated one, was run. The run is faithful and reported, and the job's text was
     // written.
-    ensures done { result.status ≡ 0 → IsDone words.now (S.left source.old) (S.left source.new)
+    ensures done { result.status ≡ 0 → IsDone jobs words.now (S.left source.old) (S.left source.new)
         (K.taken sink.old) (K.taken sink.new) result.report }
 
     // The causes of all other statuses, what was read and what was written: the clauses that all top calls have.
-    ensures ends { IsEnd words.now (source.new ≡ source.old)
+    ensures ends { IsEnd jobs words.now (source.new ≡ source.old)
         (S.left source.old) (S.left source.new) (S.faults source.old) (S.faults source.new)
         (K.taken sink.old) (K.taken sink.new) (K.faults sink.old) (K.faults sink.new) result }
 {
-    write_response(sink, respond(rt, alloc, words, source, gate))
+    let tell = |job: RunJob, scenario: Scenario|
+        requires { IsValid scenario }
+        ensures { IfOk result (λ told. Tells job scenario told.0 told.1.items) }
+    {
+        told(rt, alloc, job, scenario, gate)
+    };
+    top_call::<SpringtxRun, S, K, _>(alloc, words, source, sink, tell)
 }
 
-/// Reads the words and the input and does the job, before anything is written.
-fn respond<R: Threads + Wait + Sync, S: Source, G: Gate>(
-    rt: &R,
-    alloc: Global,
-    words: &[String],
-    source: &mut S,
-    gate: &G,
-) -> Result<Response, Early>
-    ensures { IsResponded words.now (source.new ≡ source.old)
-        (S.left source.old) (S.left source.new) (S.faults source.old) (S.faults source.new) result }
-{
-    let job = read_run_words(alloc, words)?;
-    let bytes = read_input(alloc, source, needs_input(job))?;
-    Ok(answer_to(rt, alloc, job, &bytes, gate)?)
+/// The program, by its jobs.
+struct SpringtxRun;
+
+impl Program for SpringtxRun {
+    type Job = RunJob;
+
+    ghost jobs = { jobs };
+
+    fn stated(alloc: Global, words: &[String]) -> Result<RunJob, WordsFault> {
+        read_run_words(alloc, words)
+    }
+
+    fn load_of(job: RunJob) -> Option<Load> {
+        match job {
+            RunJob::Run => None,
+            RunJob::Load { seed, clients } => Some(Load { seed, clients }),
+        }
+    }
 }

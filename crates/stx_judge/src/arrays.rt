@@ -6,7 +6,7 @@ ghost use Rattle.stx_judge.specs.Judge.{events_faults, schedule_faults, settings
 use crate::checks::{Faults, check_array, check_each};
 use crate::parts::Parts;
 use std::alloc::Global;
-use stx_refusals::{Fault, Stage, check_count, check_place};
+use stx_refusals::{Argument, Fault, Stage, check_count, check_place};
 use stx_scenario::{
     BUILT_IN_CLASSES, ClassDecl, List, MOST_BEANS, MOST_CLASSES, MOST_CLIENTS, MOST_CONNECTIONS,
     MOST_EVENTS, MOST_LISTENERS, MOST_METHODS, MOST_ROWS, MOST_SYNCS, MOST_TURNS, Name, NoMemory,
@@ -30,9 +30,7 @@ fn first_faults(faults: &mut Faults, parts: &Parts) -> Result<(), NoMemory>
     ensures { OnOk result (faults.new ≡ faults.old ++ events_faults parts.now.scenario.now ++ schedule_faults parts.now.scenario.now ++ settings_faults parts.now.scenario.now ++ rows_faults parts.now.scenario.now ++ classes_faults parts.now.scenario.now) }
 {
     let alloc = parts.alloc;
-    let events = parts.place("events");
-    let names = parts.scenario.events.as_slice();
-    check_array(alloc, faults, events.path, MOST_EVENTS, &events, names)?;
+    events_faults(faults, parts)?;
     let schedule = parts.scenario.schedule.as_slice();
     check_array(alloc, faults, "schedule", MOST_TURNS, parts, schedule)?;
     settings_faults(faults, parts)?;
@@ -55,6 +53,16 @@ fn last_faults(faults: &mut Faults, parts: &Parts) -> Result<(), NoMemory>
     let listeners = parts.scenario.listeners.as_slice();
     check_array(alloc, faults, "listeners", MOST_LISTENERS, parts, listeners)?;
     clients_faults(faults, parts)
+}
+
+fn events_faults(faults: &mut Faults, parts: &Parts) -> Result<(), NoMemory>
+    ensures { OnOk result (faults.new ≡ faults.old ++ events_faults parts.now.scenario.now) }
+{
+    let alloc = parts.alloc;
+    let array = parts.place(Argument::from_text(String::from_str(alloc, "events")?));
+    let path = array.path.as_str();
+    let names = parts.scenario.events.as_slice();
+    check_array(alloc, faults, path, MOST_EVENTS, &array, names)
 }
 
 fn settings_faults(faults: &mut Faults, parts: &Parts) -> Result<(), NoMemory>

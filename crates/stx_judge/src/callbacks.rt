@@ -13,7 +13,7 @@ ghost use Rattle.stx_judge.specs.Stages.{callback_refusal};
 use crate::checks::{Checks, Faults, check_each};
 use std::alloc::Global;
 use stx_classes::ClassTree;
-use stx_refusals::{Fault, ReadFault, Stage, check_entry, entry, first_at, under};
+use stx_refusals::{Argument, Fault, ReadFault, Stage, check_entry, entry, first_at, under};
 use stx_scenario::{
     List, Listener, MethodNo, NoMemory, Phase, Propagation, Scenario, Stmt, SyncDecl,
     TRANSACTION_EXCEPTION, TxAttr,
@@ -66,14 +66,14 @@ impl<'a> Callbacks<'a> {
         &self,
         faults: &mut Faults,
         phase: Phase,
-        path: &str,
+        path: &Argument,
         key: &str,
         body: &List<Stmt>,
     ) -> Result<(), NoMemory>
         requires { AreKnown self.now.scenario.now body.now }
         ensures { OnOk result (faults.new ≡ faults.old ++ disallowed (allowed_in phase self.now.scenario.now) (path_under path.now key.now) body.now) }
     {
-        let path = under(self.alloc, path, key)?;
+        let path = under(self.alloc, path.as_str(), key)?;
         let statements = Body {
             callbacks: self,
             phase,
@@ -115,8 +115,7 @@ impl<'a> Checks<SyncDecl> for Callbacks<'a> {
     ghost finds = { λ callbacks. sync_callback_faults callbacks.scenario.now };
 
     fn check(&self, faults: &mut Faults, at: usize, sync: &SyncDecl) -> Result<(), NoMemory> {
-        let path = entry(self.alloc, "syncs", at)?;
-        let path = path.as_str();
+        let path = &entry(self.alloc, "syncs", at)?;
         let before = Phase::BeforeCommit;
         let around = Phase::AfterCompletion;
         self.check_body(faults, before, path, "before_commit", &sync.before_commit)?;
@@ -145,8 +144,7 @@ impl<'a> Checks<Listener> for Callbacks<'a> {
     ghost finds = { λ callbacks. listener_callback_faults callbacks.scenario.now };
 
     fn check(&self, faults: &mut Faults, at: usize, listener: &Listener) -> Result<(), NoMemory> {
-        let path = entry(self.alloc, "listeners", at)?;
-        let path = path.as_str();
+        let path = &entry(self.alloc, "listeners", at)?;
         self.check_body(faults, listener.phase, path, "body", &listener.body)
     }
 }

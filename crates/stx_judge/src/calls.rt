@@ -3,7 +3,7 @@ ghost use Rattle.std.specs.Prelude.{◌≡◌, IfOk};
 ghost use Rattle.stx_base.specs.Weight.{InRange};
 ghost use Rattle.stx_judge.specs.Stages.{call_refusal};
 
-use crate::texts::method_name;
+use crate::texts::Names;
 use std::alloc::Global;
 use stx_graph::{Graph, GraphFault};
 use stx_refusals::ReadFault;
@@ -14,16 +14,11 @@ pub fn call_fault(alloc: Global, scenario: &Scenario) -> Result<Option<ReadFault
     requires { InRange scenario.now }
     ensures { IfOk result (λ fault. fault ≡ call_refusal scenario.now) }
 {
+    let names = Names { alloc, scenario };
     match Graph::of(alloc, scenario) {
         Ok(_) => Ok(None),
-        Err(GraphFault::CallCycle(method)) => {
-            let method = method_name(alloc, scenario, method)?;
-            Ok(Some(ReadFault::CallCycle(method)))
-        }
-        Err(GraphFault::TooDeep(method)) => {
-            let method = method_name(alloc, scenario, method)?;
-            Ok(Some(ReadFault::CallDepth(method)))
-        }
+        Err(GraphFault::CallCycle(method)) => Ok(Some(ReadFault::CallCycle(names.method(method)?))),
+        Err(GraphFault::TooDeep(method)) => Ok(Some(ReadFault::CallDepth(names.method(method)?))),
         Err(GraphFault::TooLarge) => Ok(Some(ReadFault::TooLarge)),
         Err(GraphFault::NoMemory(refused)) => Err(refused),
     }

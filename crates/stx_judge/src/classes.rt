@@ -5,7 +5,7 @@ ghost use Rattle.stx_base.specs.Classes.{parents_of, IsTree};
 ghost use Rattle.stx_base.specs.Valid.{PlacesInOrder};
 ghost use Rattle.stx_judge.specs.Stages.{class_refusal};
 
-use crate::texts::class_name;
+use crate::texts::Names;
 use std::alloc::Global;
 use stx_classes::{ClassFault, ClassTree};
 use stx_refusals::ReadFault;
@@ -20,17 +20,12 @@ pub fn class_tree(
     requires order { PlacesInOrder scenario.now }
     ensures { IfOk result (λ made. MatchResult made (λ tree. (tree ≡ parents_of scenario.now.classes) × IsTree scenario.now.classes) (λ fault. class_refusal scenario.now ≡ Some fault)) }
 {
+    let names = Names { alloc, scenario };
     match ClassTree::build(alloc, &scenario.classes) {
         Ok(tree) => Ok(Ok(tree)),
         Err(ClassFault::UnknownParent(_)) => unreachable!(),
-        Err(ClassFault::Cycle(class)) => {
-            let class = class_name(alloc, scenario, class)?;
-            Ok(Err(ReadFault::ClassCycle(class)))
-        }
-        Err(ClassFault::TooDeep(class)) => {
-            let class = class_name(alloc, scenario, class)?;
-            Ok(Err(ReadFault::ClassDepth(class)))
-        }
+        Err(ClassFault::Cycle(class)) => Ok(Err(ReadFault::ClassCycle(names.class(class)?))),
+        Err(ClassFault::TooDeep(class)) => Ok(Err(ReadFault::ClassDepth(names.class(class)?))),
         Err(ClassFault::NoMemory(refused)) => Err(refused),
     }
 }

@@ -1,5 +1,5 @@
 // What several tables have: names, attributes and the statements of bodies.
-ghost use Rattle.std.specs.Prelude.{◌≡◌, ◌++◌, ◌&&◌, codes, OnOk};
+ghost use Rattle.std.specs.Prelude.{◌≡◌, ◌++◌, ◌&&◌, codes, OnOk, IfOk};
 ghost use Rattle.stx_scenario.specs.Names.{is_name as is_a_name};
 ghost use Rattle.stx_base.specs.Valid.{is_method as is_a_method, names_known, own_known};
 ghost use Rattle.stx_judge.specs.Judge.{name_faults, body_faults, callback_body_faults, rules_faults, tx_faults, rule_stage};
@@ -10,7 +10,7 @@ use crate::checks::{Checks, Faults, check_array};
 use crate::references::{is_class, is_method, names_known, own_known};
 use std::alloc::Global;
 use stx_names::{is_name, is_pattern};
-use stx_refusals::{Stage, check_entry, check_key, under};
+use stx_refusals::{Argument, Stage, check_entry, check_key, under};
 use stx_scenario::{
     BeanNo, List, MOST_RULES, MOST_STATEMENTS, MethodNo, Name, NoMemory, Rule, RuleBy, Scenario,
     Stmt, TxAttr,
@@ -18,30 +18,32 @@ use stx_scenario::{
 
 /// A table or an array of a scenario, by its path, and where paths take their memory.
 #[derive(Drop)]
-pub struct Place<'a, 'b> {
+pub struct Place<'a> {
     pub alloc: Global,
     pub scenario: &'a Scenario,
-    pub path: &'b str,
+    pub path: Argument,
 }
 
 /// The body at a path, of a method of a bean.
 #[derive(Drop)]
-struct MethodBody<'a, 'b> {
-    place: Place<'a, 'b>,
+struct MethodBody<'a> {
+    place: Place<'a>,
     bean: BeanNo,
 }
 
-impl<'a, 'b> Place<'a, 'b> {
-    /// The table or the array at a path.
-    pub fn new(alloc: Global, scenario: &'a Scenario, path: &'b str) -> Self
-        ensures scenario { result.scenario.now ≡ scenario.now }
-        ensures path { result.path.now ≡ path.now }
+impl<'a> Place<'a> {
+    /// The place under a key of the table.
+    pub fn under(&self, key: &str) -> Result<Place<'a>, NoMemory>
+        ensures scenario { IfOk result (λ inner. inner.scenario.now ≡ self.now.scenario.now) }
+        ensures path { IfOk result (λ inner. inner.path ≡ path_under self.now.path key.now) }
     {
-        Place {
-            alloc,
-            scenario,
+        let path = under(self.alloc, self.path.as_str(), key)?;
+        let place = Place {
+            alloc: self.alloc,
+            scenario: self.scenario,
             path,
-        }
+        };
+        Ok(place)
     }
 
     /// Refuses the value under a key of the table, unless it passed.
@@ -52,9 +54,9 @@ impl<'a, 'b> Place<'a, 'b> {
         passed: bool,
         stage: Stage,
     ) -> Result<(), NoMemory>
-        ensures { OnOk result (faults.new ≡ faults.old ++ refused (path_under self.now.path.now key.now) (unless passed stage)) }
+        ensures { OnOk result (faults.new ≡ faults.old ++ refused (path_under self.now.path key.now) (unless passed stage)) }
     {
-        check_key(self.alloc, faults, self.path, key, passed, stage)
+        check_key(self.alloc, faults, self.path.as_str(), key, passed, stage)
     }
 
     /// Refuses an entry of the array, unless it passed.
@@ -65,14 +67,14 @@ impl<'a, 'b> Place<'a, 'b> {
         passed: bool,
         stage: Stage,
     ) -> Result<(), NoMemory>
-        ensures { OnOk result (faults.new ≡ faults.old ++ refused (path_of_entry self.now.path.now at) (unless passed stage)) }
+        ensures { OnOk result (faults.new ≡ faults.old ++ refused (path_of_entry self.now.path at) (unless passed stage)) }
     {
-        check_entry(self.alloc, faults, self.path, at, passed, stage)
+        check_entry(self.alloc, faults, self.path.as_str(), at, passed, stage)
     }
 
     /// The name of the table.
     pub fn check_name(&self, faults: &mut Faults, name: &Name) -> Result<(), NoMemory>
-        ensures { OnOk result (faults.new ≡ faults.old ++ name_faults self.now.path.now name.now) }
+        ensures { OnOk result (faults.new ≡ faults.old ++ name_faults self.now.path name.now) }
     {
         let passed = is_name(name.as_str());
         self.check_key(faults, "name", passed, Stage::BadName)
@@ -80,16 +82,14 @@ impl<'a, 'b> Place<'a, 'b> {
 
     /// The rules of the table's attribute, where it has one.
     pub fn check_tx(&self, faults: &mut Faults, tx: &Option<TxAttr>) -> Result<(), NoMemory>
-        ensures { OnOk result (faults.new ≡ faults.old ++ tx_faults self.now.scenario.now self.now.path.now tx.now) }
+        ensures { OnOk result (faults.new ≡ faults.old ++ tx_faults self.now.scenario.now self.now.path tx.now) }
     {
         let tx = match tx {
             Some(tx) => tx,
             None => return Ok(()),
         };
-        let path = under(self.alloc, self.path, "tx")?;
-        let path = under(self.alloc, path.as_str(), "rules")?;
-        let path = path.as_str();
-        let array = Place::new(self.alloc, self.scenario, path);
+        let array = self.under("tx")?.under("rules")?;
+        let path = array.path.as_str();
         let rules = tx.rules.as_slice();
         check_array(self.alloc, faults, path, MOST_RULES, &array, rules)
     }
@@ -101,12 +101,11 @@ impl<'a, 'b> Place<'a, 'b> {
         bean: BeanNo,
         body: &List<Stmt>,
     ) -> Result<(), NoMemory>
-        ensures { OnOk result (faults.new ≡ faults.old ++ body_faults self.now.scenario.now bean (path_under self.now.path.now (codes "body")) body.now) }
+        ensures { OnOk result (faults.new ≡ faults.old ++ body_faults self.now.scenario.now bean (path_under self.now.path (codes "body")) body.now) }
     {
-        let path = under(self.alloc, self.path, "body")?;
-        let path = path.as_str();
-        let place = Place::new(self.alloc, self.scenario, path);
+        let place = self.under("body")?;
         let statements = MethodBody { place, bean };
+        let path = statements.place.path.as_str();
         let body = body.as_slice();
         check_array(self.alloc, faults, path, MOST_STATEMENTS, &statements, body)
     }
@@ -118,19 +117,18 @@ impl<'a, 'b> Place<'a, 'b> {
         key: &str,
         body: &List<Stmt>,
     ) -> Result<(), NoMemory>
-        ensures { OnOk result (faults.new ≡ faults.old ++ callback_body_faults self.now.scenario.now (path_under self.now.path.now key.now) body.now) }
+        ensures { OnOk result (faults.new ≡ faults.old ++ callback_body_faults self.now.scenario.now (path_under self.now.path key.now) body.now) }
     {
-        let path = under(self.alloc, self.path, key)?;
-        let path = path.as_str();
-        let statements = Place::new(self.alloc, self.scenario, path);
+        let statements = self.under(key)?;
+        let path = statements.path.as_str();
         let body = body.as_slice();
         check_array(self.alloc, faults, path, MOST_STATEMENTS, &statements, body)
     }
 }
 
 // The names of the events.
-impl<'a, 'b> Checks<Name> for Place<'a, 'b> {
-    ghost finds = { λ array n name. refused (path_of_entry array.path.now n) (unless (is_a_name name) Kind.BadName) };
+impl<'a> Checks<Name> for Place<'a> {
+    ghost finds = { λ array n name. refused (path_of_entry array.path n) (unless (is_a_name name) Kind.BadName) };
 
     fn check(&self, faults: &mut Faults, at: usize, name: &Name) -> Result<(), NoMemory> {
         let passed = is_name(name.as_str());
@@ -138,8 +136,8 @@ impl<'a, 'b> Checks<Name> for Place<'a, 'b> {
     }
 }
 
-impl<'a, 'b> Checks<Rule> for Place<'a, 'b> {
-    ghost finds = { λ array n rule. refused (path_of_entry array.path.now n) (rule_stage array.scenario.now rule.by) };
+impl<'a> Checks<Rule> for Place<'a> {
+    ghost finds = { λ array n rule. refused (path_of_entry array.path n) (rule_stage array.scenario.now rule.by) };
 
     fn check(&self, faults: &mut Faults, at: usize, rule: &Rule) -> Result<(), NoMemory> {
         match &rule.by {
@@ -156,8 +154,8 @@ impl<'a, 'b> Checks<Rule> for Place<'a, 'b> {
 }
 
 // The calls of a client.
-impl<'a, 'b> Checks<MethodNo> for Place<'a, 'b> {
-    ghost finds = { λ array n m. refused (path_of_entry array.path.now n) (unless (is_a_method array.scenario.now m) Kind.UnknownRef) };
+impl<'a> Checks<MethodNo> for Place<'a> {
+    ghost finds = { λ array n m. refused (path_of_entry array.path n) (unless (is_a_method array.scenario.now m) Kind.UnknownRef) };
 
     fn check(&self, faults: &mut Faults, at: usize, method: &MethodNo) -> Result<(), NoMemory> {
         let passed = is_method(self.scenario, *method);
@@ -166,8 +164,8 @@ impl<'a, 'b> Checks<MethodNo> for Place<'a, 'b> {
 }
 
 // The statements of a callback.
-impl<'a, 'b> Checks<Stmt> for Place<'a, 'b> {
-    ghost finds = { λ array n s. refused (path_of_entry array.path.now n) (unless (names_known array.scenario.now s) Kind.UnknownRef) };
+impl<'a> Checks<Stmt> for Place<'a> {
+    ghost finds = { λ array n s. refused (path_of_entry array.path n) (unless (names_known array.scenario.now s) Kind.UnknownRef) };
 
     fn check(&self, faults: &mut Faults, at: usize, statement: &Stmt) -> Result<(), NoMemory> {
         let passed = names_known(self.scenario, *statement);
@@ -175,8 +173,8 @@ impl<'a, 'b> Checks<Stmt> for Place<'a, 'b> {
     }
 }
 
-impl<'a, 'b> Checks<Stmt> for MethodBody<'a, 'b> {
-    ghost finds = { λ body n s. refused (path_of_entry body.place.path.now n) (unless (names_known body.place.scenario.now s && own_known body.place.scenario.now body.bean s) Kind.UnknownRef) };
+impl<'a> Checks<Stmt> for MethodBody<'a> {
+    ghost finds = { λ body n s. refused (path_of_entry body.place.path n) (unless (names_known body.place.scenario.now s && own_known body.place.scenario.now body.bean s) Kind.UnknownRef) };
 
     fn check(&self, faults: &mut Faults, at: usize, statement: &Stmt) -> Result<(), NoMemory> {
         let passed = is_known_in(self.place.scenario, self.bean, *statement);

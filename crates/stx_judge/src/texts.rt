@@ -6,27 +6,32 @@ use std::alloc::Global;
 use stx_refusals::Argument;
 use stx_scenario::{BeanNo, ClassNo, MethodNo, NoMemory, Scenario};
 
-pub fn class_name(alloc: Global, scenario: &Scenario, class: ClassNo) -> Result<Argument, NoMemory>
-    requires { class.0 < length scenario.now.classes }
-    ensures { IfOk result (λ name. name ≡ class_name scenario.now class) }
-{
-    let name = scenario.class(class).name.as_str();
-    Ok(Argument::from_text(String::from_str(alloc, name)?))
+/// What refusals call the parts of a scenario.
+#[derive(Drop)]
+pub struct Names<'a> {
+    pub alloc: Global,
+    pub scenario: &'a Scenario,
 }
 
-/// A method as `BEAN.METHOD`.
-pub fn method_name(
-    alloc: Global,
-    scenario: &Scenario,
-    method: MethodNo,
-) -> Result<Argument, NoMemory>
-    requires { method.0 < length scenario.now.methods }
-    ensures { IfOk result (λ name. name ≡ method_name scenario.now method) }
-{
-    let method = scenario.method(method);
-    let bean = bean_name(scenario, method.bean);
-    let name = method.name.as_str();
-    Ok(Argument::from_text(format!(in alloc; "{bean}.{name}")?))
+impl<'a> Names<'a> {
+    pub fn class(&self, class: ClassNo) -> Result<Argument, NoMemory>
+        requires { class.0 < length self.now.scenario.now.classes }
+        ensures { IfOk result (λ name. name ≡ class_name self.now.scenario.now class) }
+    {
+        let name = self.scenario.class(class).name.as_str();
+        Ok(Argument::from_text(String::from_str(self.alloc, name)?))
+    }
+
+    /// A method as `BEAN.METHOD`.
+    pub fn method(&self, method: MethodNo) -> Result<Argument, NoMemory>
+        requires { method.0 < length self.now.scenario.now.methods }
+        ensures { IfOk result (λ name. name ≡ method_name self.now.scenario.now method) }
+    {
+        let method = self.scenario.method(method);
+        let bean = bean_name(self.scenario, method.bean);
+        let name = method.name.as_str();
+        Ok(Argument::from_text(format!(in self.alloc; "{bean}.{name}")?))
+    }
 }
 
 fn bean_name(scenario: &Scenario, bean: BeanNo) -> &str

@@ -2,3 +2,4 @@ pub mod Early
 pub mod Readings
 pub mod Responses
 pub mod Ends
+pub mod Programs

@@ -13,15 +13,15 @@ unreachable-requires c =
     let known = parents_known c.args.scenario.now c.requires.built_in (c.requires.order).classes in
     none-some _ (sym known ∙ due)
 
-pub class_name-requires : goal.class_name-requires
-class_name-requires c =
+pub class-requires : goal.class-requires
+class-requires c =
     let due = rw c.in-Err-Cycle.field-0-is at c.in-Err-Cycle.ensures.refused in
     let P = parents_of c.args.scenario.now.classes in
     let within = found_within (is_own_ancestor P) 0 (length P) c.in-Err-Cycle.class.0 due.1 in
     omega (arith, within, length-map c.args.scenario.now.classes (λ class. class.parent))
 
-pub class_name-requires-in-Err-TooDeep : goal.class_name-requires-in-Err-TooDeep
-class_name-requires-in-Err-TooDeep c =
+pub class-requires-in-Err-TooDeep : goal.class-requires-in-Err-TooDeep
+class-requires-in-Err-TooDeep c =
     let due = rw c.in-Err-TooDeep.field-0-is at c.in-Err-TooDeep.ensures.refused in
     let P = parents_of c.args.scenario.now.classes in
     let within = found_within (is_too_deep P) 0 (length P) c.in-Err-TooDeep.class.0 due.2 in

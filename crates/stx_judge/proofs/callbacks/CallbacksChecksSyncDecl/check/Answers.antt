@@ -17,4 +17,4 @@ returns c =
     ++ disallowed (allowed_around S) (under path (codes "before_completion")) sync.before_completion
     ++ disallowed (allowed_around S) (under path (codes "after_commit")) sync.after_commit
     ++ disallowed (allowed_around S) (under path (codes "after_completion")) sync.after_completion))
-    (c.as_str-path.ensures ∙ c.in_ok-path.ensures)
+    c.in_ok-path.ensures

@@ -22,5 +22,5 @@ returns c =
     let before_completion = both _ _ _ _ _ before_commit c.in_ok-check_callback-2.ensures in
     let after_commit = both _ _ _ _ _ before_completion c.in_ok-check_callback-3.ensures in
     both _ _ _ _ _ after_commit c.in_ok-check_callback-4.ensures
-    ∙ ap (λ S. found S c.place-table.result.path.now) c.place-table.ensures.scenario
-    ∙ ap (found c.args.self.now.scenario.now) (c.place-table.ensures.path ∙ c.as_str.ensures ∙ c.in_ok-path.ensures)
+    ∙ ap (λ S. found S c.in_ok-table.table.path) c.in_ok-table.ensures.scenario
+    ∙ ap (found c.args.self.now.scenario.now) c.in_ok-table.ensures.path
