@@ -34,9 +34,7 @@ pub fn tool<S: Source, K: Sink>(
     let tell = |job: Job, scenario: Scenario|
         requires { IsValid scenario }
         ensures { IfOk result (λ told. Tells job scenario told.0 told.1.items) }
-    {
-        told(alloc, job, scenario)
-    };
+    { told(alloc, job, scenario) };
     top_call::<Springtx, S, K, _>(alloc, words, source, sink, tell)
 }
 

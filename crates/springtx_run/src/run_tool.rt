@@ -41,9 +41,7 @@ pub fn run_tool<R: Threads + Wait + Sync, S: Source, K: Sink, G: Gate>(
     let tell = |job: RunJob, scenario: Scenario|
         requires { IsValid scenario }
         ensures { IfOk result (λ told. Tells job scenario told.0 told.1.items) }
-    {
-        told(rt, alloc, job, scenario, gate)
-    };
+    { told(rt, alloc, job, scenario, gate) };
     top_call::<SpringtxRun, S, K, _>(alloc, words, source, sink, tell)
 }
 

@@ -45,13 +45,7 @@ pub fn top_call<
     S: Source,
     K: Sink,
     F: FnOnce(P::Job, Scenario) -> Result<Told, NoMemory>,
->(
-    alloc: Global,
-    words: &[String],
-    source: &mut S,
-    sink: &mut K,
-    tell: F,
-) -> ToolEnd
+>(alloc: Global, words: &[String], source: &mut S, sink: &mut K, tell: F) -> ToolEnd
     requires asked { (job : _) (scenario : _) → IsValid scenario → F.pre tell job scenario }
     requires told { (job : _) (scenario : _) (made : _) → IsValid scenario → F.post tell job scenario made → IfOk made (λ told. P.jobs.Tells job scenario told.0 told.1.items) }
     // 0: the job was done.
