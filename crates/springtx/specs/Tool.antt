@@ -33,12 +33,17 @@ pub record IsTold (text_of : Scenario → List ℕ) (S : Scenario) (report : Opt
 abbrev pub check_text : Scenario → List ℕ
 check_text S = check_words (weight S)
 
+-- the text of a play: its report, or the summary of a load of this seed
+abbrev pub text_of : Option ℕ → Scenario → Outcome → List ℕ
+text_of None = printed
+text_of (Some seed) = summary seed
+
 -- what a job reports and tells of its scenario
 abbrev pub Tells : Job → Scenario → Option Report → List ℕ → Type 0
-Tells Job.Play = IsPlayed printed
+Tells Job.Play = IsPlayed (text_of None)
 Tells Job.Check = IsTold check_text
 Tells Job.Rules = IsTold rules_text
-Tells (Job.Load seed clients) = IsPlayed (summary seed)
+Tells (Job.Load seed clients) = IsPlayed (text_of (Some seed))
 
 -- the jobs of the program
 abbrev pub jobs : Jobs Job

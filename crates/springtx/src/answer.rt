@@ -4,7 +4,7 @@ ghost use Rattle.stx_model.specs.Faithful.{Faithful};
 ghost use Rattle.stx_base.specs.RulesText.{rules_text as text_of_rules};
 ghost use Rattle.stx_base.specs.Weight.{weight as weight_in};
 ghost use Rattle.stx_judge.specs.Judge.{IsValid};
-ghost use Rattle.springtx.specs.Tool.{Tells, check_text as text_of_check, own_play};
+ghost use Rattle.springtx.specs.Tool.{IsPlayed, Tells, check_text as text_of_check, own_play, text_of};
 
 use std::alloc::Global;
 use stx_base::Report;
@@ -22,18 +22,31 @@ pub fn told(alloc: Global, job: Job, scenario: Scenario) -> Result<Told, NoMemor
     ensures { IfOk result (λ told. Tells job scenario told.0 told.1.items) }
 {
     match job {
-        Job::Play => {
-            let report = played(alloc, scenario)?;
-            let text = print(alloc, &report.scenario, &report.outcome)?;
-            Ok((Some(report), text))
-        }
+        Job::Play => reported(alloc, None, scenario),
         Job::Check => Ok((None, checked(alloc, &scenario)?)),
         Job::Rules => Ok((None, decided(alloc, scenario)?)),
-        Job::Load { seed, .. } => {
-            let report = played(alloc, scenario)?;
-            let text = summary(alloc, seed, &report.scenario, &report.outcome)?;
-            Ok((Some(report), text))
-        }
+        Job::Load { seed, .. } => reported(alloc, Some(seed), scenario),
+    }
+}
+
+/// Plays a valid scenario and reports it. A load has a seed, and tells a summary alone.
+#[tactic(auto, using(crate::proofs::ToolLaws::is_played))]
+fn reported(alloc: Global, seed: Option<u64>, scenario: Scenario) -> Result<Told, NoMemory>
+    requires { IsValid scenario }
+    ensures { IfOk result (λ told. IsPlayed (text_of seed) scenario told.0 told.1.items) }
+{
+    let report = played(alloc, scenario)?;
+    let text = text_of(alloc, seed, &report)?;
+    Ok((Some(report), text))
+}
+
+/// The text of a play, or of a load of this seed.
+fn text_of(alloc: Global, seed: Option<u64>, report: &Report) -> Result<Vec<u8>, NoMemory>
+    ensures { IfOk result (λ text. text.items ≡ text_of seed report.now.scenario report.now.outcome) }
+{
+    match seed {
+        Some(seed) => summary(alloc, seed, &report.scenario, &report.outcome),
+        None => print(alloc, &report.scenario, &report.outcome),
     }
 }
 
