@@ -5,18 +5,14 @@ mod answer;
 mod tool;
 
 use std::process::ExitCode;
-use stx_outside::{StdSink, StdSource};
-use stx_tool::words_of;
+use stx_tool::ends_with;
 pub use tool::tool;
 
 fn main(rt: HostRuntime) -> ExitCode {
-    let alloc = rt.alloc();
-    let words = match words_of(&rt, alloc) {
-        Ok(words) => words,
-        Err(status) => return ExitCode::from(status),
-    };
-    let mut source = StdSource::new(rt.stdin());
-    let mut sink = StdSink::new(rt.stdout());
-    let end = tool(alloc, words.as_slice(), &mut source, &mut sink);
-    ExitCode::from(end.status)
+    ends_with(
+        &rt,
+        rt.stdin(),
+        rt.stdout(),
+        |alloc, words, source, sink| tool(alloc, words, source, sink),
+    )
 }

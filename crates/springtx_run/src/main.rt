@@ -6,18 +6,14 @@ mod run_tool;
 
 pub use run_tool::run_tool;
 use std::process::ExitCode;
-use stx_outside::{StdSink, StdSource};
 use stx_runner::Free;
-use stx_tool::words_of;
+use stx_tool::ends_with;
 
 fn main(rt: HostRuntime) -> ExitCode {
-    let alloc = rt.alloc();
-    let words = match words_of(&rt, alloc) {
-        Ok(words) => words,
-        Err(status) => return ExitCode::from(status),
-    };
-    let mut source = StdSource::new(rt.stdin());
-    let mut sink = StdSink::new(rt.stdout());
-    let end = run_tool(&rt, alloc, words.as_slice(), &mut source, &mut sink, &Free);
-    ExitCode::from(end.status)
+    ends_with(
+        &rt,
+        rt.stdin(),
+        rt.stdout(),
+        |alloc, words, source, sink| run_tool(&rt, alloc, words, source, sink, &Free),
+    )
 }

@@ -124,6 +124,7 @@ module _ {J : Type 0} (needs_input : J → Bool) (Fulfils : J → List ℕ → O
         cut_short = λ five. absurd (not_late (status_of early) 5 refl early_at five);
         too_long = λ seven. responded.too_long (ap ended (only_too_long early seven));
         no_longer = λ other. responded.no_longer (λ is. other (ap status_of (as_early early Early.TooLong is)));
+        needed = λ seven. responded.needed (ap ended (only_too_long early seven));
         nothing = λ _. same;
         unreported = λ _. refl;
         complete = λ accepted quiet _. accepted_early early responded accepted quiet;
@@ -161,6 +162,7 @@ module _ {J : Type 0} (needs_input : J → Bool) (Fulfils : J → List ℕ → O
         cut_short = cut_short;
         too_long = λ seven. absurd (not_early (ap is_early seven));
         no_longer = λ _. responded.no_longer (λ is. cc);
+        needed = λ seven. absurd (not_early (ap is_early seven));
         nothing = λ early. absurd (not_early early);
         unreported = λ early. absurd (not_early early);
         complete = λ accepted _ quiet. elim one [

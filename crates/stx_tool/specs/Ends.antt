@@ -108,6 +108,7 @@ pub record IsEnd {J : Type 0} (needs_input : J → Bool) (Fulfils : J → List �
   -- 7: exactly where more bytes came than a scenario may have
   pub too_long : end.status ≡ 7 → LosesMore MOST_INPUT_BYTES left_before left_now
   pub no_longer : end.status ≢ 7 → LosesWithin MOST_INPUT_BYTES left_before left_now
+  pub needed : end.status ≡ 7 → is_input_needed needs_input stated ≡ true
   -- 2, 3, 6 for want of memory, and 7 come before anything is written
   pub nothing : IsTrue (is_early end.status) → taken_now ≡ taken_before
   pub unreported : IsTrue (is_early end.status) → end.report ≡ None

@@ -1,5 +1,5 @@
--- The jobs of any program: where a job's scenario comes from, and what a top call promises. A program says what its jobs are by
--- one record.
+-- The jobs of a program: where a job's scenario comes from, and what a top call promises. A program says what its jobs are by one
+-- record.
 use Rattle.std.specs.Prelude.{◌≡◌, ℕ, Bool, true, false, List, Option, Some, None, Result, Ok, String}
 use Rattle.std.specs.declared.alloc.Global.{Global}
 use Rattle.stx_scenario.specs.declared.scenario.Scenario.{Scenario}

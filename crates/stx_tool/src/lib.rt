@@ -7,10 +7,10 @@ mod input;
 mod program;
 mod reading;
 mod response;
-mod words;
+mod standard;
 
 pub use early::Early;
 pub use program::{Program, Told, top_call};
 pub use reading::{Reading, read};
 pub use response::Response;
-pub use words::words_of;
+pub use standard::ends_with;

@@ -1,4 +1,4 @@
-// The top call of any program: its words state a job, which is done with a scenario that is read or generated.
+// The top call of a program: its words state a job, which is done with a scenario that is read, or generated for a load.
 ghost use Rattle.std.specs.Prelude.{◌≡◌, List, Option, Result, IfOk, IfErr, Some, None};
 ghost use Rattle.stx_judge.specs.Judge.{IsValid};
 ghost use Rattle.stx_words.specs.Jobs.{CanLoad};
