@@ -55,8 +55,11 @@ fn rule_of(alloc: Global, names: &Numbered, rule: &RuleSentence<'_>) -> Result<R
 fn matched_by(alloc: Global, names: &Numbered, matched: &Matched<'_>) -> Result<RuleBy, NoMemory>
     ensures { IfOk result (λ by. by ≡ matched_numbered names.now matched.now) }
 {
-    Ok(match matched {
-        Matched::Class(class) => RuleBy::Class(names.class_no(class.as_str())),
-        Matched::Pattern(pattern) => RuleBy::Pattern(Name::new(alloc, pattern.as_str())?),
-    })
+    match matched {
+        Matched::Class(class) => Ok(RuleBy::Class(names.class_no(class.as_str()))),
+        Matched::Pattern(pattern) => {
+            let pattern = Name::new(alloc, pattern.as_str())?;
+            Ok(RuleBy::Pattern(pattern))
+        }
+    }
 }
